@@ -42,11 +42,11 @@ def make(command, name):
     """Makes a part of the wheel by a script of the checkout, whose progress goes to standard error."""
     try:
         done = subprocess.run(command, cwd=ROOT, stdin=subprocess.DEVNULL, stdout=subprocess.DEVNULL, stderr=None)
-        told = f"{command[0].name} ended with status {done.returncode}" if done.returncode else None
+        fault_text = f"{command[0].name} ended with status {done.returncode}" if done.returncode else None
     except OSError as fault:
-        told = str(fault)
-    if told:
-        raise NotMade(f"chtab: no wheel: {name} is not there and can't be made ({told}); --config-settings=--without-library=yes leaves out what is not there")
+        fault_text = str(fault)
+    if fault_text:
+        raise NotMade(f"chtab: no wheel: {name} is not there and can't be made ({fault_text}); --config-settings=--without-library=yes leaves out what is not there")
 
 
 def make_parts():

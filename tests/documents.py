@@ -129,9 +129,9 @@ def check_help(tally, path):
 
 FORM = ROOT / "crates" / "ch_words" / "src" / "form.rt"
 FAULTS = ROOT / "crates/ch_run/specs/Fault.antt"
-# The modules of commands: those in a folder, of the maps, and of the service.
+# The modules of commands, those of the maps and of the service among them.
 COMMANDS = sorted([
-    *(ROOT / "python/chtab/cli").glob("*.py"), ROOT / "python/chtab_maps/command.py", ROOT / "python/chtab_server/command.py",
+    *(ROOT / "python/chtab_tools").glob("[!s]*.py"), ROOT / "python/chtab_maps/command.py", ROOT / "python/chtab_server/command.py",
 ])
 # The constants of limits with the rows that state them, and those that no user meets.
 LIMITS = (

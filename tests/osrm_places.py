@@ -17,6 +17,7 @@ from helpers.serving import SERVICE, here, on_all_maps, service
 sys.path.insert(0, str(ROOT / "python"))
 
 import chtab  # noqa: E402
+from chtab_server.osrm.nearby import find_some  # noqa: E402
 
 # What lies between the places of a leg, as annotations name it.
 PARTS = "duration", "distance", "weight", "speed", "datasources"
@@ -233,7 +234,7 @@ def nearest_roads_that_lead_in_a_direction():
 
 def leads(network, place, bearing, within):
     """Whether a road leads in a direction at a place on it."""
-    spots = network.roads.find_some(*place, 6)
+    spots = find_some(network.roads, *place, 6)
     for road in spots.roads[spots.metres < 0.5].tolist():
         line = network.roads.lines.of(road).tolist()
         for one, other in zip(line, line[1:]):

@@ -1,10 +1,10 @@
 #!/usr/bin/python3
-"""The command picture, which stands in python/chtab/cli/picture.py; --help tells of it."""
+"""The command picture, which stands in python/chtab_tools/picture.py; --help tells of it."""
 import pathlib
 import sys
 
 sys.path.insert(0, str(pathlib.Path(__file__).resolve().parent.parent / "python"))
 
-from chtab.cli.picture import command
+from chtab_tools.picture import command
 
 command()

@@ -1,10 +1,10 @@
 #!/usr/bin/python3
-"""The command reach, which stands in python/chtab/cli/reach.py; --help tells of it."""
+"""The command reach, which stands in python/chtab_tools/reach.py; --help tells of it."""
 import pathlib
 import sys
 
 sys.path.insert(0, str(pathlib.Path(__file__).resolve().parent.parent / "python"))
 
-from chtab.cli.reach import command
+from chtab_tools.reach import command
 
 command()

@@ -25,18 +25,8 @@ if typing.TYPE_CHECKING:
 
 __version__ = "1.3"
 __all__ = [
-    "ChtabError",
-    "DataFault",
-    "FileFault",
-    "Near",
-    "Network",
-    "ProgramFault",
-    "Routes",
-    "Spots",
-    "TimedOut",
-    "TooFar",
-    "__version__",
-]
+    "ChtabError", "DataFault", "FileFault", "Near", "Network", "ProgramFault", "Routes", "Spots",
+    "TimedOut", "TooFar", "__version__"]
 
 # Imported when they are first used, because code that only reads files doesn't need numpy.
 LATER = {

@@ -18,7 +18,6 @@ import difflib
 import functools
 import inspect
 import os
-import warnings
 from collections.abc import Callable, Iterable, Mapping
 from typing import TYPE_CHECKING, Any, Literal, Self, TypeVar, cast
 
@@ -76,62 +75,19 @@ def timed(call: Call) -> Call:
     return cast(Call, within_time)
 
 
-def by_name(*names: str) -> Callable[[Call], Call]:
-    """Decorates a call that took these arguments by position in version 1.1, in this order after
-    the others. It still does so, with a warning."""
-    def decorate(call: Call) -> Call:
-        kinds = [each.kind for each in inspect.signature(call).parameters.values()]
-        count = kinds.count(inspect.Parameter.POSITIONAL_OR_KEYWORD)
+def with_hints(call: Call) -> Call:
+    """Decorates a call with many arguments: for a misspelt one the nearest is named."""
+    known = list(inspect.signature(call).parameters)[1:]
 
-        @functools.wraps(call)
-        def by_position(*given: Any, **named: Any) -> Any:
-            more = given[count:]
-            if not more or len(more) > len(names):
-                return call(*given, **named)
-            wanted = ", ".join(f"{name}=.." for name in names[:len(more)])
-            text = f"{call.__name__} takes {wanted} by name, and by position only in this version"
-            warnings.warn(text, FutureWarning, stacklevel=2)
-            return call(*given[:count], **dict(zip(names, more)), **named)
-
-        return cast(Call, by_position)
-
-    return decorate
-
-
-def without(*names: str) -> Callable[[Call], Call]:
-    """Decorates a call that took these arguments in version 1.1, which have no effect now. For a
-    misspelt argument the nearest one is named."""
-    def decorate(call: Call) -> Call:
-        known = list(inspect.signature(call).parameters)[1:]
-
-        @functools.wraps(call)
-        def ignoring(*given: Any, **named: Any) -> Any:
-            for name in [name for name in named if name not in known]:
-                if name not in names:
-                    near = difflib.get_close_matches(name, known, 1, 0.5) or known
-                    text = f"{call.__name__} has no argument {name!r}; it has {', '.join(near)}"
-                    raise TypeError(text)
-                text = f"{name} of {call.__name__} has no effect, and goes with the next version"
-                warnings.warn(text, FutureWarning, stacklevel=2)
-                del named[name]
-            return call(*given, **named)
-
-        return cast(Call, ignoring)
-
-    return decorate
-
-
-def former(name: str, call: Call) -> Call:
-    """The former name of a call, which warns."""
     @functools.wraps(call)
-    def by_former_name(*given: Any, **named: Any) -> Any:
-        text = f"{name} is {call.__name__} now; the former name goes with the next version"
-        warnings.warn(text, DeprecationWarning, stacklevel=2)
+    def hinting(*given: Any, **named: Any) -> Any:
+        for name in set(named).difference(known):
+            near = difflib.get_close_matches(name, known, 1, 0.5) or known
+            text = f"{call.__name__} has no argument {name!r}; it has {', '.join(near)}"
+            raise TypeError(text)
         return call(*given, **named)
 
-    by_former_name.__doc__ = f"The former name of `{call.__name__}`."
-    by_former_name.__name__ = name
-    return cast(Call, by_former_name)
+    return cast(Call, hinting)
 
 
 class Network:
@@ -166,7 +122,7 @@ class Network:
     # Networks of files, and of a caller's own arcs.
 
     @classmethod
-    @without("runs", "routes")
+    @with_hints
     def open(
         cls, graph: str | os.PathLike, saved: str | os.PathLike | None = None, *,
         coordinates: str | os.PathLike | None = None, bends: str | os.PathLike | None = None,
@@ -235,7 +191,7 @@ class Network:
         return network
 
     @classmethod
-    @without("runs", "routes")
+    @with_hints
     def from_arrays(
         cls, sources: ArrayLike, targets: ArrayLike, weights: ArrayLike, *,
         nodes: ArrayLike | None = None, x: ArrayLike | None = None, y: ArrayLike | None = None,
@@ -323,7 +279,7 @@ class Network:
         return cls._made(arcs, folder, running)
 
     @classmethod
-    @without("runs", "routes")
+    @with_hints
     def from_frame(
         cls, frame: pandas.DataFrame, source: str = "source", target: str = "target",
         weight: str = "weight", *, geometry: str | None = None, nodes: ArrayLike | None = None,
@@ -383,7 +339,7 @@ class Network:
         return cls._made(from_arcs.arcs_like(given, like), folder, running)
 
     @classmethod
-    @without("runs", "routes")
+    @with_hints
     def from_networkx(
         cls, graph: networkx.Graph, weight: str = "travel_time", scale: float | str | None = "auto",
         *, unit: str | None = None, x: str | None = "x", y: str | None = "y",
@@ -446,7 +402,7 @@ class Network:
         return cls._made(arcs, folder, running)
 
     @classmethod
-    @without("runs", "routes")
+    @with_hints
     def from_geodataframe(
         cls, edges: geopandas.GeoDataFrame, nodes: geopandas.GeoDataFrame | None = None,
         source: str = "u", target: str = "v", weight: str | None = None, *,
@@ -506,7 +462,7 @@ class Network:
         return cls._made(from_arcs.arcs_like(given, like), folder, running)
 
     @classmethod
-    @without("runs", "routes")
+    @with_hints
     def from_sparse(
         cls, matrix: scipy.sparse.spmatrix, *, nodes: ArrayLike | None = None,
         x: ArrayLike | None = None, y: ArrayLike | None = None, scale: float | None = None,
@@ -721,7 +677,6 @@ class Network:
         found = self._engine.few_distances(nodes[0::2], nodes[1::2])
         return None if found is None else numpy.array(found, numpy.int64)
 
-    @by_name("within")
     @timed
     def table(
         self, sources: Nodes, targets: Nodes, *, within: Limit = None, missing: float | None = None,
@@ -763,7 +718,6 @@ class Network:
         columns = self._layers.ends_of(of_pairs.nodes_in(self._layers, "targets", targets))
         return self._engine.table(rows, columns, limit, progress)
 
-    @by_name("within")
     @timed
     def frame(
         self, sources: Nodes, targets: Nodes, *, within: Limit = None, progress: Progress = None,
@@ -1040,7 +994,6 @@ class Network:
 
     # Nearness.
 
-    @by_name("count", "within", "direction")
     @timed
     def near(
         self, sources: ArrayLike | Spots | None, targets: ArrayLike | Spots, *,
@@ -1099,7 +1052,6 @@ class Network:
         rows = blocks.rows(self._engine, question, workers, progress)
         return Near(rows, *asked.labels(), self._measure.in_unit(rows.weights))
 
-    @by_name("count", "within", "direction")
     @timed
     def nearest_targets(
         self, sources: ArrayLike | Spots | None, targets: ArrayLike | Spots, *, count: int = 1,
@@ -1156,7 +1108,6 @@ class Network:
         labels = asked.labels()
         return Nearest.of(places, found, *labels, self._layers, asked.source_places())
 
-    @by_name("sources", "targets", "aggregate", "decay", "direction")
     @timed
     def accessibility(
         self, values: ArrayLike | pandas.DataFrame | dict, within: Limit | list[Limit], *,
@@ -1219,19 +1170,6 @@ class Network:
         limits = questions.limits_in(self._measure, within)
         return questions.aggregated(
             self._engine, asked, limits, aggregate, decay, workers, progress)
-
-    def sum_within(
-        self, values: ArrayLike | dict, within: Limit | list[Limit],
-        sources: ArrayLike | None = None, targets: ArrayLike | None = None,
-        decay: str | Callable | None = None, direction: Direction = "to", *,
-        workers: int | distributed.Client = 1, progress: Progress = None,
-    ) -> NDArray[numpy.float64] | pandas.DataFrame:
-        """The former name of `accessibility` for sums."""
-        text = "sum_within is accessibility now; the former name goes with the next version"
-        warnings.warn(text, DeprecationWarning, stacklevel=2)
-        return self.accessibility(
-            values, within, sources=sources, targets=targets, decay=decay, direction=direction,
-            workers=workers, progress=progress)
 
     # Between places.
 
@@ -1324,7 +1262,6 @@ class Network:
         """
         return self._measure.in_unit(self._trips.weights(*self._trips.pairs(starts, ends)), missing)
 
-    @by_name("within")
     @timed
     def trip_table(
         self, starts: Spots, ends: Spots, *, within: Limit = None, missing: float | None = None,
@@ -1642,10 +1579,6 @@ class Network:
 
     def __exit__(self, *_: object) -> None:
         self.close()
-
-    matrix = former("matrix", table)
-    nearest = former("nearest", nearest_nodes)
-    nearest_of = former("nearest_of", nearest_targets)
 
 
 def see_that_network(like: Any) -> None:

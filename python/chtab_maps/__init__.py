@@ -1,4 +1,5 @@
-"""Makes graphs from maps of OpenStreetMap. docs/MAPS.md has the rules: what becomes a road, for whom, and how fast.
+"""Makes graphs from maps of OpenStreetMap. docs/MAPS.md has the rules: what becomes a road, for
+whom, and how fast.
 
 | module | what it holds |
 |---|---|

@@ -29,7 +29,8 @@ import argparse
 import sys
 from collections.abc import Sequence
 
-from chtab import cli, files
+import chtab_tools as cli
+from chtab import files
 from chtab_maps import converting, profiles
 from chtab_maps.ways import CLASSES
 
@@ -41,7 +42,8 @@ def part_of(word: str) -> str | int:
     if word in ("all", "large", "largest"):
         return word
     if not word.isdecimal() or not int(word):
-        raise argparse.ArgumentTypeError(f"{word!r} is none of all, large, largest, and no number from 1 on")
+        raise argparse.ArgumentTypeError(
+            f"{word!r} is none of all, large, largest, and no number from 1 on")
     return int(word)
 
 
@@ -49,15 +51,20 @@ def classes_of(word: str) -> tuple[str, ...]:
     """Some classes of ways, in their order."""
     found = word.split(",")
     if not set(found) <= set(CLASSES):
-        raise argparse.ArgumentTypeError(f"{word!r} is none of {', '.join(CLASSES)}, nor some of them with commas between them")
+        raise argparse.ArgumentTypeError(
+            f"{word!r} is none of {', '.join(CLASSES)}, nor some of them with commas between them")
     return tuple(name for name in CLASSES if name in found)
 
 
 def words_of(arguments: Sequence[str]) -> argparse.Namespace:
     """Reads the arguments. Invalid ones end the process with status 2."""
     parser = cli.parser_of("osm_to_gr", __doc__)
-    parser.add_argument("--profile", choices=profiles.NAMES, default="car", help="who travels, which decides on ways, access, barriers and speeds (car)")
-    parser.add_argument("--metric", choices=UNITS, default="time", help="weights are milliseconds of travel, or metres (time)")
+    parser.add_argument(
+        "--profile", choices=profiles.NAMES, default="car",
+        help="who travels, which decides on ways, access, barriers and speeds (car)")
+    parser.add_argument(
+        "--metric", choices=UNITS, default="time",
+        help="weights are milliseconds of travel, or metres (time)")
     parser.add_argument("--turns", action="store_true", help="no turn is taken that the map forbids: a crossing with such turns becomes several nodes")
     parser.add_argument(
         "--turn-costs", action="store_true",
@@ -79,17 +86,24 @@ def words_of(arguments: Sequence[str]) -> argparse.Namespace:
         "--exclude", type=classes_of, default=(), metavar="CLASSES",
         help="leave out the ways of some classes, for requests that exclude them: toll, motorway and ferry, with commas between them",
     )
-    parser.add_argument("--no-ferries", action="store_false", dest="ferries", help="leave ferries out")
-    parser.add_argument("--bends", action="store_true", help="write OUT.bends, to draw roads with their bends")
-    parser.add_argument("--names", action="store_true", help="write OUT.names, to call roads by their names and to tell turns")
-    parser.add_argument("--driving-side", choices=files.SIDES, default="right", help="the side of the road that is driven on, for OUT.names and --turn-costs (right)")
+    parser.add_argument(
+        "--no-ferries", action="store_false", dest="ferries", help="leave ferries out")
+    parser.add_argument(
+        "--bends", action="store_true", help="write OUT.bends, to draw roads with their bends")
+    parser.add_argument(
+        "--names", action="store_true",
+        help="write OUT.names, to call roads by their names and to tell turns")
+    parser.add_argument(
+        "--driving-side", choices=files.SIDES, default="right",
+        help="the side of the road that is driven on, for OUT.names and --turn-costs (right)")
     parser.add_argument("--log", metavar="FILE", help="write a line of CSV for each object that was left out or ignored: its number, and why")
     parser.add_argument("--quiet", action="store_true", help="write nothing on standard error")
     parser.add_argument(
         "map", metavar="MAP",
         help="OpenStreetMap's XML, plain or packed (.gz, .bz2, .xz), or .osm.pbf (by Debian's package python3-pyosmium); - is standard input",
     )
-    parser.add_argument("out", metavar="OUT", help="the files that are written, without their suffix")
+    parser.add_argument(
+        "out", metavar="OUT", help="the files that are written, without their suffix")
     found = parser.parse_args(arguments)
     if found.turning_back != "crossings" and not (found.turns or found.turn_costs):
         parser.error("--turning-back is about turns: give --turns or --turn-costs too")
@@ -101,15 +115,19 @@ def words_of(arguments: Sequence[str]) -> argparse.Namespace:
 def main(arguments: Sequence[str]) -> None:
     """Makes the graph that the arguments ask for, and reports what was left out of the map."""
     words = words_of(arguments)
-    choices = converting.Choices(**{name: getattr(words, name) for name in converting.Choices._fields})
+    choices = converting.Choices(
+        **{name: getattr(words, name) for name in converting.Choices._fields})
     made, report = converting.convert(words.map, choices, not words.quiet, words.log is not None)
-    names = converting.write(words.out, made, converting.comments_of(words.map, choices), UNITS[words.metric])
+    names = converting.write(
+        words.out, made, converting.comments_of(words.map, choices), UNITS[words.metric])
     if words.log is not None:
         report.write_log(words.log)
     if not words.quiet:
         title = f"left out of {converting.name_of(words.map)}, for {profiles.profile(words.profile).people}"
         print(*report.lines(title), sep="\n", file=sys.stderr)
-    print(f"{len(made.names):,} nodes and {len(made.arcs):,} arcs in {', '.join(names[:-1])} and {names[-1]}")
+    print(
+        f"{len(made.names):,} nodes and {len(made.arcs):,} arcs in {', '.join(names[:-1])} and "
+        f"{names[-1]}")
 
 
 def command() -> None:

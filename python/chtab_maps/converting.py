@@ -1,4 +1,5 @@
-"""Makes the files of a graph from a map: reading, arcs, turns and components in order, and the table of what was left out."""
+"""Makes the files of a graph from a map: reading, arcs, turns and components in order, and the
+table of what was left out."""
 from __future__ import annotations
 
 import contextlib
@@ -23,8 +24,7 @@ if TYPE_CHECKING:
 
 SOURCE = (
     "Source: OpenStreetMap, https://www.openstreetmap.org/copyright",
-    "Licence: (c) OpenStreetMap contributors, Open Database License (ODbL) 1.0",
-)
+    "Licence: (c) OpenStreetMap contributors, Open Database License (ODbL) 1.0")
 
 
 class Choices(NamedTuple):
@@ -45,8 +45,9 @@ class Choices(NamedTuple):
 
 
 class Numbered(NamedTuple):
-    """A network as its files have it: the names and places of nodes, which count from 1, the arcs and their bends, the ends of trips, the copies of
-    nodes, the streets of arcs, None unless they are wanted, and the number of each arc's way."""
+    """A network as its files have it: the names and places of nodes, which count from 1, the arcs
+    and their bends, the ends of trips, the copies of nodes, the streets of arcs, None unless they
+    are wanted, and the number of each arc's way."""
 
     names: list[int]
     places: list[Point]
@@ -60,7 +61,8 @@ class Numbered(NamedTuple):
 
 @contextlib.contextmanager
 def uncollected() -> Iterator[None]:
-    """Pauses the garbage collector: a map has no cycles of objects, and scanning its many objects takes a fifth of the time."""
+    """Pauses the garbage collector: a map has no cycles of objects, and scanning its many objects
+    takes a fifth of the time."""
     was_on = gc.isenabled()
     gc.disable()
     try:
@@ -71,25 +73,32 @@ def uncollected() -> Iterator[None]:
 
 
 @uncollected()
-def convert(path: str, choices: Choices, is_told: bool = False, is_logged: bool = False) -> tuple[Numbered, Report]:
-    """Converts a map (`-` is standard input). Returns the network, and the report of what was left out, with its objects if `is_logged`. An empty map
-    is a fault. `is_told` reports progress on standard error."""
+def convert(
+    path: str, choices: Choices, is_shown: bool = False, is_logged: bool = False,
+) -> tuple[Numbered, Report]:
+    """Converts a map (`-` is standard input). Returns the network, and the report of what was left
+    out, with its objects if `is_logged`. An empty map is a fault. `is_shown` reports progress on
+    standard error."""
     profile, report = profiles.profile(choices.profile), Report(is_logged)
     survey = Survey(profile, report, choices.ferries, choices.names, choices.exclude)
-    reading.read_map(path, survey, is_told)
+    reading.read_map(path, survey, is_shown)
     survey.note_ways_that_come_twice()
     if not (choices.turns or choices.turn_costs):
         survey.relations.clear()
     restricting = restrictions.read_all(survey.relations, profile, report)
-    with Progress("roads", len(survey.roads), "roads", is_told=is_told) as progress:
+    with Progress("roads", len(survey.roads), "roads", is_shown=is_shown) as progress:
         # A light costs time where an arc ends.
-        cuts = None if choices.nodes == "all" else set(survey.lights) if choices.turn_costs else set()
+        cuts = (
+            None if choices.nodes == "all" else set(survey.lights) if choices.turn_costs else set())
         with_bends = choices.bends or choices.turn_costs
-        made, nodes = arcs.network_of(survey, survey.closed_nodes(), cuts, choices.metric == "metres", with_bends, progress)
+        made, nodes = arcs.network_of(
+            survey, survey.closed_nodes(), cuts, choices.metric == "metres", with_bends, progress)
     if not made.tails:
         raise FileFault(f"{name_of(path)}: the map has no road for {profile.people}")
     made = turned(made, restrictions.forbidden_turns(restricting, made, nodes, report), choices)
-    return numbered(made, kept_of(made, choices.part, report), survey.streets, choices.driving_side), report
+    return (
+        numbered(made, kept_of(made, choices.part, report), survey.streets, choices.driving_side),
+        report)
 
 
 def turned(made: arcs.Network, forbidden: Mapping[int, set[int]], choices: Choices) -> arcs.Network:
@@ -108,14 +117,19 @@ def turned(made: arcs.Network, forbidden: Mapping[int, set[int]], choices: Choic
 
 
 def kept_of(made: arcs.Network, wanted: str | int, report: Report) -> bytearray:
-    """Whether each node is kept, by the wanted component: `all`, `large`, `largest` or a rank, from 1 on. The others are noted."""
+    """Whether each node is kept, by the wanted component: `all`, `large`, `largest` or a rank, from
+    1 on. The others are noted."""
     if wanted == "all":
         return bytearray([True]) * len(made.names)
     part, ranked = parts.ranked(made)
-    first, last = (0, parts.large(ranked)) if wanted == "large" else (0, 1) if wanted == "largest" else (int(wanted) - 1, int(wanted))
+    first, last = (
+        (0, parts.large(ranked)) if wanted == "large" else (0, 1) if wanted == "largest"
+        else (int(wanted) - 1, int(wanted)))
     if last > len(ranked):
         raise FileFault(f"there is no part {last}: the roads have {len(ranked)}")
-    others, kept = ranked[:first] + ranked[last:], parts.kept_nodes(made, part, {component for component, _ in ranked[first:last]})
+    others, kept = (
+        ranked[:first] + ranked[last:],
+        parts.kept_nodes(made, part, {component for component, _ in ranked[first:last]}))
     if others:
         words = f"of {len(made.names) - len(made.ends):,}, in {len(others):,} parts of {others[0][1]:,} nodes and fewer"
         report.note("parts", words, count=sum(size for _, size in others))
@@ -124,21 +138,34 @@ def kept_of(made: arcs.Network, wanted: str | int, report: Report) -> bytearray:
     return kept
 
 
-def numbered(made: arcs.Network, kept: bytearray, streets: Streets | None = None, side: str = "right") -> Numbered:
-    """Numbers the kept nodes from 1 on, in the order of their names, and those with the same name in the order in which they were added."""
+def numbered(
+    made: arcs.Network, kept: bytearray, streets: Streets | None = None, side: str = "right",
+) -> Numbered:
+    """Numbers the kept nodes from 1 on, in the order of their names, and those with the same name
+    in the order in which they were added."""
     nodes = sorted(itertools.compress(range(len(kept)), kept), key=made.names.__getitem__)
     numbers = [0] * len(kept)
     for number, node in enumerate(nodes, 1):
         numbers[node] = number
     is_kept = [kept[tail] and kept[head] for tail, head in zip(made.tails, made.heads)]
     columns = zip(made.tails, made.heads, made.weights)
-    arcs = [(numbers[tail], numbers[head], weight) for tail, head, weight in itertools.compress(columns, is_kept)]
-    bends = {arc: points for arc, points in enumerate(itertools.compress(made.bends or (), is_kept)) if points}
+    arcs = [
+        (numbers[tail], numbers[head], weight)
+        for tail, head, weight in itertools.compress(columns, is_kept)]
+    bends = {
+        arc: points for arc, points in enumerate(itertools.compress(made.bends or (), is_kept))
+        if points}
     ends = sorted((numbers[node], numbers[end]) for end, node in made.ends.items() if kept[end])
-    copies = sorted((numbers[copy], numbers[node]) for copy, node in made.copies.items() if kept[copy] and kept[node])
-    called = None if streets is None else files.Streets(*streets.chosen(itertools.compress(made.streets or (), is_kept)), side)
+    copies = sorted(
+        (numbers[copy], numbers[node]) for copy, node in made.copies.items()
+        if kept[copy] and kept[node])
+    called = (
+        None if streets is None
+        else files.Streets(*streets.chosen(itertools.compress(made.streets or (), is_kept)), side))
     ways = [made.way_of(arc) for arc in itertools.compress(range(len(made.tails)), is_kept)]
-    return Numbered([made.names[node] for node in nodes], [made.places[node] for node in nodes], arcs, bends, ends, copies, called, ways)
+    return Numbered(
+        [made.names[node] for node in nodes], [made.places[node] for node in nodes], arcs, bends,
+        ends, copies, called, ways)
 
 
 def name_of(path: str) -> str:
@@ -147,24 +174,35 @@ def name_of(path: str) -> str:
 
 def comments_of(path: str, choices: Choices) -> list[str]:
     """The comments of a graph's files: the map, and the choices."""
-    more = ", turns as the map restricts them" * (choices.turns or choices.turn_costs) + ", at a cost" * choices.turn_costs
+    more = (
+        ", turns as the map restricts them" * (choices.turns or choices.turn_costs)
+        + ", at a cost" * choices.turn_costs)
     more += ", no ferries" * (not choices.ferries)
-    more += "".join(f", without {name}" for name in choices.exclude) + ", turning back at dead ends alone" * (choices.turning_back == "dead-ends")
+    more += (
+        "".join(f", without {name}" for name in choices.exclude)
+        + ", turning back at dead ends alone" * (choices.turning_back == "dead-ends"))
     people = profiles.profile(choices.profile).people
-    return [f"Roads for {people}, from {name_of(path)}: nodes {choices.nodes}, part {choices.part}{more}.", *SOURCE]
+    return [
+        f"Roads for {people}, from {name_of(path)}: nodes {choices.nodes}, part "
+        f"{choices.part}{more}.", *SOURCE]
 
 
 def write(out: str, made: Numbered, comments: Sequence[str], unit: str) -> list[str]:
-    """Writes the files, none of which gets its name before all are complete, and returns their names. Bends and streets of an earlier graph with the
-    same name are removed, because they would be used for this one."""
+    """Writes the files, none of which gets its name before all are complete, and returns their
+    names. Bends and streets of an earlier graph with the same name are removed, because they would
+    be used for this one."""
     streets = made.streets
     writers: dict[str, Callable[[str], None] | None] = {
-        "gr": lambda part: files.write_graph(part, len(made.names), made.arcs, [*comments, f"Weights are {unit}."]),
-        "co": lambda part: files.write_coordinates(part, made.places, comments, made.ends, made.copies),
+        "gr": lambda part: files.write_graph(
+            part, len(made.names), made.arcs, [*comments, f"Weights are {unit}."]),
+        "co": lambda part: files.write_coordinates(
+            part, made.places, comments, made.ends, made.copies),
         "nodes": lambda part: files.write_names(part, made.names),
         "ways": lambda part: files.write_ways(part, made.ways, comments),
-        "bends": (lambda part: files.write_bends(part, made.bends, comments)) if made.bends else None,
-        "names": None if streets is None else functools.partial(files.write_streets, found=streets, comments=comments),
+        "bends": (
+            lambda part: files.write_bends(part, made.bends, comments)) if made.bends else None,
+        "names": None if streets is None else functools.partial(
+            files.write_streets, found=streets, comments=comments),
     }
     with contextlib.ExitStack() as stack:
         for suffix, writer in writers.items():

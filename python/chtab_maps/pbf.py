@@ -1,4 +1,5 @@
-"""Maps of the form .osm.pbf, read as the text that `unpacking` makes of them: a line for each object.
+"""Maps of the form .osm.pbf, read as the text that `unpacking` makes of them: a line for each
+object.
 
 https://osmcode.org/opl-file-format/
 """
@@ -37,7 +38,8 @@ BLOCK = 1 << 18
 
 
 def texts_of(file: IO[bytes]) -> Iterator[bytes]:
-    """Yields the text of a file in parts of whole lines, each with a line feed before its first line too."""
+    """Yields the text of a file in parts of whole lines, each with a line feed before its first
+    line too."""
     rest = b"\n"
     while block := file.read(BLOCK):
         end = block.rfind(b"\n") + 1
@@ -58,7 +60,8 @@ def nodes_and_others(text: bytes) -> tuple[bytes, bytes]:
 
 
 def lines_with(text: bytes, marks: Iterable[bytes]) -> Iterator[str]:
-    """Yields the lines of a text that have one of these marks, in order. The others are skipped without being parsed."""
+    """Yields the lines of a text that have one of these marks, in order. The others are skipped
+    without being parsed."""
     starts = set()
     for mark in marks:
         at = text.find(mark)
@@ -85,7 +88,8 @@ def tags_of(items: Iterable[str]) -> dict[str, str]:
 
 
 def nodes_of(text: str) -> tuple[list[int], list[float], list[float]]:
-    """The nodes of a way, `n1x9.5y47.1,n2xy,..`: their numbers, longitudes and latitudes, or those of `NOWHERE` for a node without a place."""
+    """The nodes of a way, `n1x9.5y47.1,n2xy,..`: their numbers, longitudes and latitudes, or those
+    of `NOWHERE` for a node without a place."""
     if not text:
         return [], [], []
     parts = text[1:].replace("x", "y").replace(",n", "y").split("y")
@@ -101,7 +105,8 @@ class Lines:
         self.survey = survey
         self.asked = re.compile(f",((?:{'|'.join(map(re.escape, survey.keys))})=[^,]*)")
         self.called = re.compile(f",((?:{'|'.join(map(re.escape, KEYS))})=[^,]*)")
-        # The verdicts by the relevant tags, as the text has them, and the places of nodes with numbers below 0.
+        # The verdicts by the relevant tags, as the text has them, and the places of nodes with
+        # numbers below 0.
         self.verdicts: dict[tuple[str, ...], Verdict | None] = {}
         self.places: dict[int, Point] = {}
 
@@ -130,7 +135,8 @@ class Lines:
         """The verdict on a way with these tags; None if it has none of `ROAD_KEYS`."""
         if items not in self.verdicts:
             tags = tags_of(items)
-            self.verdicts[items] = self.survey.verdict_on(tags) if any(key in tags for key in ROAD_KEYS) else None
+            self.verdicts[items] = (
+                self.survey.verdict_on(tags) if any(key in tags for key in ROAD_KEYS) else None)
         return self.verdicts[items]
 
     def way(self, line: str) -> None:
@@ -147,7 +153,9 @@ class Lines:
         numbers, longitudes, latitudes = nodes_of(nodes[1:])
         if self.places and NO_PLACE in nodes:
             self.place(numbers, longitudes, latitudes)
-        streets = None if self.survey.streets is None else self.survey.streets_of(tags_of(self.called.findall("," + tags[1:])))
+        streets = (
+            None if self.survey.streets is None
+            else self.survey.streets_of(tags_of(self.called.findall("," + tags[1:]))))
         self.survey.add_way(int(number[1:]), rule, numbers, longitudes, latitudes, streets)
 
     def place(self, numbers: list[int], longitudes: list[float], latitudes: list[float]) -> None:
@@ -159,24 +167,32 @@ class Lines:
     def relation(self, fields: Mapping[str, str]) -> None:
         tags = tags_of(fields["T"].split(","))
         if tags.get("type") == "restriction" and fields["d"] != "D":
-            members = [(KINDS[kind], int(ref), plain(role)) for kind, ref, role in MEMBER.findall(fields["M"])]
+            members = [
+                (KINDS[kind], int(ref), plain(role))
+                for kind, ref, role in MEMBER.findall(fields["M"])]
             self.survey.relations.append(Relation(int(fields["r"]), tags, members))
 
 
 def read(path: str, name: str, survey: Survey, progress: Progress) -> None:
-    """Reads a map into a survey, by a child process that unpacks it. `progress` counts its objects."""
+    """Reads a map into a survey, by a child process that unpacks it. `progress` counts its
+    objects."""
     lines = Lines(survey)
     command = [sys.executable, unpacking.__file__, path]
     with subprocess.Popen(command, stdout=subprocess.PIPE, stderr=subprocess.PIPE) as child:
         try:
-            for text in texts_of(cast(IO[bytes], child.stdout)):
-                lines.take(text)
-                progress.step(text.count(b"\n") - 1)
-            told = cast(IO[bytes], child.stderr).read().decode("utf-8", "replace").strip().splitlines()
+            for part in texts_of(cast(IO[bytes], child.stdout)):
+                lines.take(part)
+                progress.step(part.count(b"\n") - 1)
+            text = cast(IO[bytes], child.stderr).read().decode("utf-8", "replace")
+            errors = text.strip().splitlines()
         except BaseException:
             child.kill()
             raise
     if child.returncode == unpacking.NO_OSMIUM:
-        raise FileFault(f"{name}: the form .pbf needs pyosmium (Debian's package python3-pyosmium); the forms of XML need nothing")
+        raise FileFault(
+            f"{name}: the form .pbf needs pyosmium (Debian's package python3-pyosmium); the "
+            "forms of XML need nothing")
     if child.returncode:
-        raise FileFault(f"{name}: cut short or spoilt: {told[-1] if told else f'reading it ended with status {child.returncode}'}")
+        raise FileFault(
+            f"{name}: cut short or spoilt: "
+            f"{errors[-1] if errors else f'reading it ended with status {child.returncode}'}")

@@ -1,4 +1,5 @@
-"""Reads the tables of `tables/`: a file for each way of travelling, and one for the limits of speed."""
+"""Reads the tables of `tables/`: a file for each way of travelling, and one for the limits of
+speed."""
 from __future__ import annotations
 
 import functools
@@ -22,8 +23,8 @@ class Access(NamedTuple):
 
 
 class Oneway(NamedTuple):
-    """The tags of direction in the order in which they count; the tags that imply a direction, and those that open the other one, with their
-    words."""
+    """The tags of direction in the order in which they count; the tags that imply a direction, and
+    those that open the other one, with their words."""
 
     tags: tuple[str, ...]
     implied: dict[str, frozenset[str]]
@@ -31,7 +32,8 @@ class Oneway(NamedTuple):
 
 
 class Barriers(NamedTuple):
-    """The tags of access at the node, which count first; the kinds that are open and closed, and whether all others are open."""
+    """The tags of access at the node, which count first; the kinds that are open and closed, and
+    whether all others are open."""
 
     access: Access
     open: frozenset[str]
@@ -59,13 +61,16 @@ class Profile(NamedTuple):
     def keys(self) -> set[str]:
         """The tags of ways that the tables use."""
         of_speed = {"maxspeed", "maxspeed:forward", "maxspeed:backward", "route", "duration"}
-        return of_speed | {"highway"}.union(
-            self.access.tags, self.closed_by, self.oneway.tags, self.oneway.implied, self.oneway.opened_by, self.ferries_for_others
-        )
+        return (
+            of_speed
+            | {"highway"}.union(
+                self.access.tags, self.closed_by, self.oneway.tags, self.oneway.implied,
+                self.oneway.opened_by, self.ferries_for_others))
 
 
 class Limits(NamedTuple):
-    """The kilometres an hour of units, words and zones; 0 for a word without a single number. `most` is the highest limit that counts."""
+    """The kilometres an hour of units, words and zones; 0 for a word without a single number.
+    `most` is the highest limit that counts."""
 
     units: dict[str, float]
     words: dict[str, float]
@@ -82,7 +87,9 @@ def sets(table: Mapping[str, Iterable[str]]) -> dict[str, frozenset[str]]:
 
 
 def access(table: Mapping[str, Any], more: Iterable[str] = ()) -> Access:
-    return Access(tuple(table["tags"]), frozenset(table["open"]) | frozenset(more), frozenset(table["closed"]) - frozenset(more))
+    return Access(
+        tuple(table["tags"]), frozenset(table["open"]) | frozenset(more),
+        frozenset(table["closed"]) - frozenset(more))
 
 
 @functools.cache
@@ -91,25 +98,16 @@ def profile(name: str) -> Profile:
     table = read(name)
     oneway, barriers, turns = table["oneway"], table["barriers"], table["turns"]
     return Profile(
-        name=name,
-        people=table["people"],
-        speeds=table["speeds"],
-        speeds_where_opened=table["speeds_where_opened"],
-        access=access(table["access"]),
+        name=name, people=table["people"], speeds=table["speeds"],
+        speeds_where_opened=table["speeds_where_opened"], access=access(table["access"]),
         closed_by=sets(table["closed_by"]),
         oneway=Oneway(tuple(oneway["tags"]), sets(oneway["implied"]), sets(oneway["opened_by"])),
-        limit=table["maxspeed"]["limit"],
-        ferry_speed=table["ferries"]["speed"],
+        limit=table["maxspeed"]["limit"], ferry_speed=table["ferries"]["speed"],
         ferries_for_others=tuple(table["ferries"]["for_others"]),
         barriers=Barriers(
-            access(table["access"], barriers["open_words"]),
-            frozenset(barriers["open"]),
-            frozenset(barriers["closed"]),
-            barriers["others"] == "open",
-        ),
-        turn_tags=tuple(turns["tags"]),
-        turn_exceptions=frozenset(turns["except"]),
-    )
+            access(table["access"], barriers["open_words"]), frozenset(barriers["open"]),
+            frozenset(barriers["closed"]), barriers["others"] == "open"),
+        turn_tags=tuple(turns["tags"]), turn_exceptions=frozenset(turns["except"]))
 
 
 @functools.cache

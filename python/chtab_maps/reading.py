@@ -1,6 +1,8 @@
-"""Reads maps in XML, plain or compressed by gzip, bzip2 or xz, and in .osm.pbf. The first bytes tell the format.
+"""Reads maps in XML, plain or compressed by gzip, bzip2 or xz, and in .osm.pbf. The first bytes
+tell the format.
 
-XML is read twice: first its ways and relations, then the nodes that roads use. A fault of the file is one line.
+XML is read twice: first its ways and relations, then the nodes that roads use. A fault of the file
+is one line.
 """
 from __future__ import annotations
 
@@ -30,14 +32,15 @@ PACKED: dict[bytes, Any] = {b"\x1f\x8b": gzip.open, b"BZh": bz2.open, b"\xfd7zXZ
 # The errors of the XML parser for a text that ends within an element.
 CUT_SHORT = {
     xml.parsers.expat.errors.codes[text]
-    for text in ("no element found", "unclosed token", "unclosed CDATA section", "partial character")
-}
+    for text in (
+        "no element found", "unclosed token", "unclosed CDATA section", "partial character")}
 PBF = b"\x0a\x09OSMHeader"
 BLOCK = 1 << 20
 
 
 class Relation(NamedTuple):
-    """A relation of the type `restriction`: its number, its tags, and its members as (type, number, role)."""
+    """A relation of the type `restriction`: its number, its tags, and its members as (type, number,
+    role)."""
 
     number: int
     tags: Tags
@@ -65,17 +68,18 @@ def is_pbf(path: str) -> bool:
         return file.read(15)[4:] == PBF
 
 
-def read_map(path: str, survey: Survey, is_told: bool = False) -> None:
-    """Reads a map into a survey; `-` is standard input. `is_told` reports progress."""
+def read_map(path: str, survey: Survey, is_shown: bool = False) -> None:
+    """Reads a map into a survey; `-` is standard input. `is_shown` reports progress."""
     name = "standard input" if path == "-" else os.path.basename(path)
     with lasting(path) as file:
         if is_pbf(file):
             from chtab_maps import pbf
 
-            with Progress("reading", None, "objects", is_told=is_told) as progress:
+            with Progress("reading", None, "objects", is_shown=is_shown) as progress:
                 pbf.read(file, name, survey, progress)
         else:
-            with Progress("reading", 2 * os.path.getsize(file), "bytes", is_told=is_told) as progress:
+            with Progress(
+                "reading", 2 * os.path.getsize(file), "bytes", is_shown=is_shown) as progress:
                 read_elements(file, name, Ways(survey), progress)
                 nodes = Nodes(survey)
                 read_elements(file, name, nodes, progress)
@@ -96,11 +100,15 @@ class Ways:
             return
         rule = self.survey.rule_by(self.survey.verdict_on(tags), number)
         if rule:
-            self.survey.add_way(number, rule, [int(node) for node in nodes], streets=self.survey.streets_of(tags))
+            self.survey.add_way(
+                number, rule, [int(node) for node in nodes], streets=self.survey.streets_of(tags))
 
-    def relation(self, number: int, tags: Tags, members: Sequence[tuple[str, str, str]], is_deleted: bool) -> None:
+    def relation(
+        self, number: int, tags: Tags, members: Sequence[tuple[str, str, str]], is_deleted: bool,
+    ) -> None:
         if tags.get("type") == "restriction" and not is_deleted:
-            self.survey.relations.append(Relation(number, tags, [(kind, int(ref), role) for kind, ref, role in members]))
+            self.survey.relations.append(
+                Relation(number, tags, [(kind, int(ref), role) for kind, ref, role in members]))
 
 
 class Nodes:
@@ -110,13 +118,17 @@ class Nodes:
         self.survey, self.wanted = survey, set(survey.nodes())
         self.places: dict[int, Point] = {}
 
-    def node(self, number: int, tags: Tags, place: tuple[str | None, str | None], is_deleted: bool) -> None:
+    def node(
+        self, number: int, tags: Tags, place: tuple[str | None, str | None], is_deleted: bool,
+    ) -> None:
         x, y = place
         if number not in self.wanted or is_deleted or x is None or y is None:
             return
         longitude, latitude = float(x), float(y)
         if not (-180 <= longitude <= 180 and -90 <= latitude <= 90):
-            raise ValueError(f"node {number} at longitude {longitude:g}, latitude {latitude:g} is no place on the earth")
+            raise ValueError(
+                f"node {number} at longitude {longitude:g}, latitude {latitude:g} is no place on "
+                "the earth")
         if number in self.places:
             self.survey.report.note("twice", "node", "node", number)
         self.places[number] = (longitude, latitude)
@@ -127,7 +139,9 @@ class Elements:
     """Handles the elements of XML, and passes those on that `keeper` has a method for."""
 
     def __init__(self, keeper: Ways | Nodes) -> None:
-        self.calls = {name: getattr(keeper, name) for name in ("node", "way", "relation") if hasattr(keeper, name)}
+        self.calls = {
+            name: getattr(keeper, name) for name in ("node", "way", "relation")
+            if hasattr(keeper, name)}
         self.depth = 0
         self.head: Mapping[str, str] = {}
         self.tags: dict[str, str] = {}
@@ -158,11 +172,13 @@ class Elements:
 
 
 def blocks_of(path: str, progress: Progress) -> Iterator[bytes]:
-    """Yields the decompressed bytes of a file in blocks. `progress` counts the bytes of the file itself."""
+    """Yields the decompressed bytes of a file in blocks. `progress` counts the bytes of the file
+    itself."""
     with open(path, "rb") as packed:
         head = packed.read(6)
         packed.seek(0)
-        file = next((opener(packed) for magic, opener in PACKED.items() if head.startswith(magic)), packed)
+        file = next(
+            (opener(packed) for magic, opener in PACKED.items() if head.startswith(magic)), packed)
         before = 0
         while block := file.read(BLOCK):
             yield block
@@ -183,8 +199,14 @@ def read_elements(path: str, name: str, keeper: Ways | Nodes, progress: Progress
     except (EOFError, zlib.error, lzma.LZMAError, gzip.BadGzipFile) as fault:
         raise FileFault(f"{name}: cut short or spoilt: {fault}") from None
     except xml.parsers.expat.ExpatError as fault:
-        raise FileFault(f"{name}: {'cut short' if fault.code in CUT_SHORT else 'not a map in XML'}: {fault}") from None
+        raise FileFault(
+            f"{name}: "
+            f"{'cut short' if fault.code in CUT_SHORT else 'not a map in XML'}: {fault}") from None
     except KeyError as fault:
-        raise FileFault(f"{name}: line {parser.CurrentLineNumber}: an element has no attribute {fault.args[0]}") from None
+        raise FileFault(
+            f"{name}: line {parser.CurrentLineNumber}: an element has no attribute "
+            f"{fault.args[0]}") from None
     except (ValueError, OverflowError) as fault:
-        raise FileFault(f"{name}: line {parser.CurrentLineNumber}: not a map of OpenStreetMap: {fault}") from None
+        raise FileFault(
+            f"{name}: line {parser.CurrentLineNumber}: not a map of OpenStreetMap: "
+            f"{fault}") from None

@@ -27,7 +27,8 @@ class NotRead(Exception):
 
 
 class Restriction(NamedTuple):
-    """A restriction: turns from some ways over the map's node `via` to some ways are forbidden, or all other turns are."""
+    """A restriction: turns from some ways over the map's node `via` to some ways are forbidden, or
+    all other turns are."""
 
     is_demand: bool
     is_back: bool
@@ -43,7 +44,9 @@ def words_for(relation: Relation, profile: Profile) -> set[str]:
     tags = relation.tags
     key = next((key for key in profile.turn_tags if key in tags), None)
     if key is None:
-        raise NotRead("at times alone" if any(f"{key}:conditional" in tags for key in profile.turn_tags) else f"not for {profile.people}")
+        raise NotRead(
+            "at times alone" if any(f"{key}:conditional" in tags for key in profile.turn_tags)
+            else f"not for {profile.people}")
     if words_of(tags.get("except", "")) & profile.turn_exceptions:
         raise NotRead(f"not for {profile.people}")
     if tags.keys() & TIMES:
@@ -57,13 +60,17 @@ def words_for(relation: Relation, profile: Profile) -> set[str]:
 def restriction_of(relation: Relation, profile: Profile) -> Restriction:
     """The restriction of a relation."""
     words = words_for(relation, profile)
-    froms, tos = ([ref for kind, ref, part in relation.members if (kind, part) == ("way", role)] for role in ("from", "to"))
+    froms, tos = (
+        [ref for kind, ref, part in relation.members if (kind, part) == ("way", role)]
+        for role in ("from", "to"))
     vias = [(kind, ref) for kind, ref, role in relation.members if role == "via"]
     if not froms or not tos or not vias:
         raise NotRead("without from, via and to")
     if len(vias) > 1 or vias[0][0] != "node":
         raise NotRead("over ways")
-    return Restriction(words <= DEMANDING, words <= {"no_u_turn", "only_u_turn"} and froms == tos, froms, vias[0][1], tos, relation.number)
+    return Restriction(
+        words <= DEMANDING, words <= {"no_u_turn", "only_u_turn"} and froms == tos, froms,
+        vias[0][1], tos, relation.number)
 
 
 def read_all(relations: Iterable[Relation], profile: Profile, report: Report) -> list[Restriction]:
@@ -95,8 +102,11 @@ def arcs_at(network: Network, nodes: Iterable[int]) -> dict[int, Crossing]:
     return crossings
 
 
-def arcs_of_ways(network: Network, ways: Iterable[int], arcs: Iterable[int], is_back: bool) -> list[int]:
-    """The arcs of a crossing that are part of these ways. Each way has to have exactly one, except for turns back."""
+def arcs_of_ways(
+    network: Network, ways: Iterable[int], arcs: Iterable[int], is_back: bool,
+) -> list[int]:
+    """The arcs of a crossing that are part of these ways. Each way has to have exactly one, except
+    for turns back."""
     found = []
     for way in ways:
         of_way = [arc for arc in arcs if network.way_of(arc) == way]
@@ -108,22 +118,30 @@ def arcs_of_ways(network: Network, ways: Iterable[int], arcs: Iterable[int], is_
     return found
 
 
-def turns_of(restriction: Restriction, crossing: Crossing, network: Network) -> list[tuple[int, int]]:
+def turns_of(
+    restriction: Restriction, crossing: Crossing, network: Network,
+) -> list[tuple[int, int]]:
     """The turns of a restriction, as (arc in, arc out)."""
     ins = arcs_of_ways(network, restriction.froms, crossing.ins, restriction.is_back)
     outs = arcs_of_ways(network, restriction.tos, crossing.outs, restriction.is_back)
     turns = [(one, other) for one in ins for other in outs]
     if restriction.is_back:
-        turns = [(one, other) for one, other in turns if one != other and network.pieces[one] == network.pieces[other]]
+        turns = [
+            (one, other) for one, other in turns
+            if one != other and network.pieces[one] == network.pieces[other]]
     if not turns:
         raise NotRead("without roads that meet at the node")
     return turns
 
 
-def forbidden_turns(restrictions: Sequence[Restriction], network: Network, nodes: Mapping[int, int], report: Report) -> dict[int, set[int]]:
-    """The arcs that may not follow an arc: {arc in: {arcs out}}. `nodes` has the network's nodes by the map's numbers.
+def forbidden_turns(
+    restrictions: Sequence[Restriction], network: Network, nodes: Mapping[int, int], report: Report,
+) -> dict[int, set[int]]:
+    """The arcs that may not follow an arc: {arc in: {arcs out}}. `nodes` has the network's nodes by
+    the map's numbers.
 
-    If several restrictions demand turns from one arc, all of these are open, and all others are forbidden.
+    If several restrictions demand turns from one arc, all of these are open, and all others are
+    forbidden.
     """
     crossings = arcs_at(network, {nodes[each.via] for each in restrictions if each.via in nodes})
     forbidden: dict[int, set[int]] = collections.defaultdict(set)

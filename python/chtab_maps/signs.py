@@ -11,7 +11,9 @@ if TYPE_CHECKING:
 
 # The tags of a street. Signs with destinations may differ by direction.
 SIGNS = ("destination", "destination:ref")
-KEYS = ("highway", "junction", "name", "ref", *(f"{key}{side}" for key in SIGNS for side in ("", ":forward", ":backward")))
+KEYS = (
+    "highway", "junction", "name", "ref",
+    *(f"{key}{side}" for key in SIGNS for side in ("", ":forward", ":backward")))
 # The words of `junction` for rings, on which all traffic goes round.
 # https://wiki.openstreetmap.org/wiki/Key:junction
 RINGS = ("roundabout", "circular")
@@ -23,7 +25,8 @@ def listed(value: str) -> str:
 
 
 def destinations_of(tags: Tags, side: str) -> str:
-    """The destinations on the signs of a way in one direction, `REF, REF: PLACE, PLACE`: https://wiki.openstreetmap.org/wiki/Key:destination."""
+    """The destinations on the signs of a way in one direction, `REF, REF: PLACE, PLACE`:
+    https://wiki.openstreetmap.org/wiki/Key:destination."""
     places, numbers = (listed(tags.get(f"{key}:{side}", tags.get(key, ""))) for key in SIGNS)
     return f"{numbers}: {places}" if numbers and places else numbers or places
 
@@ -32,24 +35,30 @@ def streets_of(tags: Tags) -> tuple[Street, Street]:
     """The streets of both directions of a road: along it, and against it."""
     kind = tags.get("highway", "ferry")
     junction = tags.get("junction", "")
-    common = kind, junction if junction in RINGS else "", tags.get("name", "").strip(), listed(tags.get("ref", ""))
-    return Street(*common, destinations_of(tags, "forward")), Street(*common, destinations_of(tags, "backward"))
+    common = (
+        kind, junction if junction in RINGS else "", tags.get("name", "").strip(),
+        listed(tags.get("ref", "")))
+    return (
+        Street(*common, destinations_of(tags, "forward")),
+        Street(*common, destinations_of(tags, "backward")))
 
 
 class Streets:
-    """The different streets of a map. Each road has a pair of their numbers, which count from 0, for its two directions."""
+    """The different streets of a map. Each road has a pair of their numbers, which count from 0,
+    for its two directions."""
 
     def __init__(self) -> None:
         self.numbers: dict[Street, int] = {}
 
     def add(self, tags: Tags) -> tuple[int, int]:
         """The numbers of the streets along a way and against it."""
-        along, against = (self.numbers.setdefault(street, len(self.numbers)) for street in streets_of(tags))
+        along, against = (
+            self.numbers.setdefault(street, len(self.numbers)) for street in streets_of(tags))
         return along, against
 
     def chosen(self, numbers: Iterable[int | None]) -> tuple[list[Street], list[int]]:
-        """The different streets with these numbers, in the order of their first use, and for each number the place of its street, from 1 on, or 0 for
-        None."""
+        """The different streets with these numbers, in the order of their first use, and for each
+        number the place of its street, from 1 on, or 0 for None."""
         every = list(self.numbers)
         places: dict[int | None, int] = {None: 0}
         found = [places.setdefault(number, len(places)) for number in numbers]

@@ -1,6 +1,7 @@
 """Reads limits of speed and durations of ferries from tags.
 
-https://wiki.openstreetmap.org/wiki/Key:maxspeed and https://wiki.openstreetmap.org/wiki/Key:duration
+https://wiki.openstreetmap.org/wiki/Key:maxspeed and
+https://wiki.openstreetmap.org/wiki/Key:duration
 """
 from __future__ import annotations
 
@@ -14,7 +15,8 @@ if TYPE_CHECKING:
     from chtab_maps.tags import Notes, Tags
 
 NUMBER = re.compile(r"(\d+(?:\.\d+)?)\s*([a-z/]*)", re.ASCII)
-# A zone whose name is its limit, in a country that counts in kilometres: DE:zone:30, FR:zone30, CZ:30.
+# A zone whose name is its limit, in a country that counts in kilometres: DE:zone:30, FR:zone30,
+# CZ:30.
 ZONE = re.compile(r"(?!GB|UK|US)[A-Z]{2}(?:-[A-Z]+)?:(?:zone:?)?(\d+)", re.ASCII)
 # Hours and minutes, and optionally seconds; minutes alone; or the form of ISO 8601.
 CLOCK = re.compile(r"(?:(\d+):)?(\d+)(?::(\d\d))?", re.ASCII)
@@ -22,7 +24,8 @@ ISO = re.compile(r"P(?:(\d+)D)?(?:T(?:(\d+)H)?(?:(\d+)M)?(?:(\d+)S)?)?", re.ASCI
 
 
 def one_limit(word: str) -> float | None:
-    """The kilometres an hour of one word; 0 if it has no single number, None if it can't be read."""
+    """The kilometres an hour of one word; 0 if it has no single number, None if it can't be
+    read."""
     limits = profiles.limits()
     if word in limits.words:
         return limits.words[word]
@@ -37,7 +40,8 @@ def one_limit(word: str) -> float | None:
 
 
 def limit_of(tags: Tags, side: str, notes: Notes) -> float | None:
-    """The limit of a way in one direction, `forward` or `backward`, in kilometres an hour; None if there is no number.
+    """The limit of a way in one direction, `forward` or `backward`, in kilometres an hour; None if
+    there is no number.
 
     The least of a list counts. What can't be read is noted and ignored.
     """

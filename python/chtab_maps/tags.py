@@ -1,4 +1,5 @@
-"""What the tags of a way or a node mean for one way of travelling: whether it is open, and in which direction.
+"""What the tags of a way or a node mean for one way of travelling: whether it is open, and in which
+direction.
 
 `notes` is a list for what could not be read, as (kind, text); the kinds are those of `report`.
 """
@@ -9,13 +10,21 @@ from typing import TYPE_CHECKING, TypeAlias
 
 if TYPE_CHECKING:
     from chtab_maps.profiles import Access, Barriers, Oneway
-# The meanings of the words of `oneway`: along the way, against it, both, or a direction that changes with the time of day. If the direction
-# alternates all the time (`alternating`), both are open.
-# https://wiki.openstreetmap.org/wiki/Key:oneway
+# The meanings of the words of `oneway`: along the way, against it, both, or a direction that
+# changes with the time of day. If the direction alternates all the time (`alternating`), both are
+# open. https://wiki.openstreetmap.org/wiki/Key:oneway
 ALONG, AGAINST, BOTH, BY_TIME = 1, -1, 0, None
 DIRECTIONS: dict[str, int | None] = {
-    "yes": ALONG, "true": ALONG, "1": ALONG, "-1": AGAINST, "reverse": AGAINST, "no": BOTH, "false": BOTH, "0": BOTH,
-    "alternating": BOTH, "reversible": BY_TIME,
+    "yes": ALONG,
+    "true": ALONG,
+    "1": ALONG,
+    "-1": AGAINST,
+    "reverse": AGAINST,
+    "no": BOTH,
+    "false": BOTH,
+    "0": BOTH,
+    "alternating": BOTH,
+    "reversible": BY_TIME,
 }
 
 
@@ -30,7 +39,8 @@ def words_of(value: str) -> set[str]:
 
 
 def deciding(tags: Tags, access: Access, notes: Notes) -> tuple[str, bool] | tuple[None, None]:
-    """The first of the access tags with a known word, and whether it opens: (tag, True or False), or (None, None).
+    """The first of the access tags with a known word, and whether it opens: (tag, True or False),
+    or (None, None).
 
     Of several words one that opens is enough.
     """
@@ -47,8 +57,12 @@ def deciding(tags: Tags, access: Access, notes: Notes) -> tuple[str, bool] | tup
 
 
 def has_one_of(tags: Tags, table: Mapping[str, frozenset[str]]) -> str | None:
-    """The first tag of a table {key: words} with one of its words, as key=value; None if there is none."""
-    return next((f"{key}={tags[key]}" for key, words in table.items() if key in tags and words_of(tags[key]) & words), None)
+    """The first tag of a table {key: words} with one of its words, as key=value; None if there is
+    none."""
+    return next(
+        (
+            f"{key}={tags[key]}" for key, words in table.items()
+            if key in tags and words_of(tags[key]) & words), None)
 
 
 def direction_of(tags: Tags, oneway: Oneway, notes: Notes) -> int | None:

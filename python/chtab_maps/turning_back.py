@@ -1,8 +1,10 @@
-"""Turning back: in the middle of a road, where one way becomes another and nothing else leads on, a driver goes on. Where it is asked for, so does a
-driver at each crossing, and turns back at dead ends alone.
+"""Turning back: in the middle of a road, where one way becomes another and nothing else leads on, a
+driver goes on. Where it is asked for, so does a driver at each crossing, and turns back at dead
+ends alone.
 
-Turning back makes a trip shorter only where it leads round a forbidden turn. In the middle of roads it is therefore forbidden along those that lead away
-from such a turn, up to the next crossing of three or more roads, or to a dead end.
+Turning back makes a trip shorter only where it leads round a forbidden turn. In the middle of roads
+it is therefore forbidden along those that lead away from such a turn, up to the next crossing of
+three or more roads, or to a dead end.
 """
 from __future__ import annotations
 
@@ -16,8 +18,11 @@ if TYPE_CHECKING:
     from chtab_maps.arcs import Network
 
 
-def without_turning_back(network: Network, forbidden: Mapping[int, set[int]]) -> dict[int, set[int]]:
-    """The arcs that may not follow an arc, {arc in: {arcs out}}, with those that lead back from a node where just two roads meet."""
+def without_turning_back(
+    network: Network, forbidden: Mapping[int, set[int]],
+) -> dict[int, set[int]]:
+    """The arcs that may not follow an arc, {arc in: {arcs out}}, with those that lead back from a
+    node where just two roads meet."""
     found = {arc: set(others) for arc, others in forbidden.items()}
     if not found:
         return found
@@ -50,7 +55,9 @@ def only_at_dead_ends(
     return found
 
 
-def forbid_back(network: Network, arc: int, outs: Sequence[int], found: dict[int, set[int]]) -> list[int]:
+def forbid_back(
+    network: Network, arc: int, outs: Sequence[int], found: dict[int, set[int]],
+) -> list[int]:
     """Forbids to turn back behind an arc, if any of the arcs `outs` leads on; these."""
     piece = network.pieces[arc]
     ahead = [out for out in outs if network.pieces[out] != piece and out not in found.get(arc, ())]

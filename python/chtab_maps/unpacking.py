@@ -1,7 +1,9 @@
 """Run as a program: writes a map of the form .osm.pbf to standard output as text, by pyosmium.
 
-The text has a line for each object (https://osmcode.org/opl-file-format/): first nodes, then ways with the places of their nodes, then relations. All
-of this happens outside of Python, some ten times as fast as with one object at a time in Python, and in a process beside the one that reads the text.
+The text has a line for each object (https://osmcode.org/opl-file-format/): first nodes, then ways
+with the places of their nodes, then relations. All of this happens outside of Python, some ten
+times as fast as with one object at a time in Python, and in a process beside the one that reads the
+text.
 """
 from __future__ import annotations
 
@@ -32,7 +34,8 @@ def main(path: str) -> int:
         text.close()
     except osmium.InvalidLocationError as fault:
         numbers = nodes_that_lie_nowhere(osmium, path)
-        print(f"node {numbers[0]} is at no place on the earth" if numbers else fault, file=sys.stderr)
+        print(
+            f"node {numbers[0]} is at no place on the earth" if numbers else fault, file=sys.stderr)
         return FAULT
     except RuntimeError as fault:
         print(fault, file=sys.stderr)

@@ -1,4 +1,5 @@
-"""Decides which ways of a map are roads for one way of travelling, how fast, and in which direction."""
+"""Decides which ways of a map are roads for one way of travelling, how fast, and in which
+direction."""
 from __future__ import annotations
 
 import array
@@ -23,8 +24,8 @@ ROAD_KEYS = ("highway", "route")
 # The classes of ways that may be left out, as OSRM calls them.
 CLASSES = "toll", "motorway", "ferry"
 MOTORWAYS = "motorway", "motorway_link"
-# The tag of a node with a traffic light, and that of the direction along its way in which it counts.
-# https://wiki.openstreetmap.org/wiki/Tag:highway%3Dtraffic_signals
+# The tag of a node with a traffic light, and that of the direction along its way in which it
+# counts. https://wiki.openstreetmap.org/wiki/Tag:highway%3Dtraffic_signals
 LIGHT, LIGHT_SIDE = "traffic_signals", "traffic_signals:direction"
 SIDES = "forward", "backward"
 # The place of a node that the map doesn't have.
@@ -43,8 +44,9 @@ class Rule(NamedTuple):
 
 
 class Road(NamedTuple):
-    """A way that is a road: its number in the map, its rule, and the numbers, longitudes and latitudes of its nodes, in order. A node that the map
-    lacks is at `NOWHERE`. `streets` has the numbers of its streets along it and against it, or is None unless they are wanted."""
+    """A way that is a road: its number in the map, its rule, and the numbers, longitudes and
+    latitudes of its nodes, in order. A node that the map lacks is at `NOWHERE`. `streets` has the
+    numbers of its streets along it and against it, or is None unless they are wanted."""
 
     number: int
     rule: Rule
@@ -62,7 +64,8 @@ class Verdict(NamedTuple):
 
 
 def is_ferry(way: tags.Tags, profile: Profile) -> bool:
-    return "ferry" in tags.words_of(way.get("route", "")) and way.get("highway") not in profile.speeds
+    return (
+        "ferry" in tags.words_of(way.get("route", "")) and way.get("highway") not in profile.speeds)
 
 
 def reason_against(way: tags.Tags, profile: Profile, notes: tags.Notes) -> tuple[str, str] | None:
@@ -107,8 +110,11 @@ def class_of(way: tags.Tags, profile: Profile, classes: Collection[str]) -> str 
     return "route=ferry" if "ferry" in classes and is_ferry(way, profile) else None
 
 
-def judged(way: tags.Tags, profile: Profile, with_ferries: bool = True, excluded: Collection[str] = ()) -> Verdict:
-    """The verdict on a way with these tags. Nothing is noted about ways that are neither a road nor a ferry of any kind."""
+def judged(
+    way: tags.Tags, profile: Profile, with_ferries: bool = True, excluded: Collection[str] = (),
+) -> Verdict:
+    """The verdict on a way with these tags. Nothing is noted about ways that are neither a road nor
+    a ferry of any kind."""
     notes: tags.Notes = []
     on_ferry = is_ferry(way, profile)
     if not on_ferry and "highway" not in way:
@@ -126,18 +132,23 @@ def judged(way: tags.Tags, profile: Profile, with_ferries: bool = True, excluded
         return Verdict(None, (*notes, ("by time", "")))
     usual = usual_speed(way, profile)
     sides = ("forward", direction != tags.AGAINST), ("backward", direction != tags.ALONG)
-    forward, backward = (speeds.speed_of(way, side, usual, profile.limit, notes) if is_open else 0 for side, is_open in sides)
+    forward, backward = (
+        speeds.speed_of(way, side, usual, profile.limit, notes) if is_open else 0
+        for side, is_open in sides)
     seconds = duration_of(way, notes) if on_ferry else 0
     return Verdict(Rule(forward, backward, seconds, on_ferry), tuple(dict.fromkeys(notes)))
 
 
 class Survey:
-    """What is kept of a map: the roads with the places of their nodes, barriers, and the relations that restrict turns."""
+    """What is kept of a map: the roads with the places of their nodes, barriers, and the relations
+    that restrict turns."""
 
     def __init__(
-        self, profile: Profile, report: Report, with_ferries: bool = True, with_names: bool = False, excluded: Collection[str] = (),
+        self, profile: Profile, report: Report, with_ferries: bool = True, with_names: bool = False,
+        excluded: Collection[str] = (),
     ) -> None:
-        self.profile, self.report, self.with_ferries, self.excluded = profile, report, with_ferries, excluded
+        self.profile, self.report, self.with_ferries, self.excluded = (
+            profile, report, with_ferries, excluded)
         # The streets of roads, if they are wanted.
         self.streets = Streets() if with_names else None
         self.roads: list[Road] = []
@@ -152,10 +163,12 @@ class Survey:
         self.verdicts: dict[Any, Verdict] = {}
 
     def verdict_on(self, way: tags.Tags) -> Verdict:
-        """The verdict on a way with these tags, which is kept for other ways with the same relevant tags."""
+        """The verdict on a way with these tags, which is kept for other ways with the same relevant
+        tags."""
         asked = frozenset(item for item in way.items() if item[0] in self.keys)
         if asked not in self.verdicts:
-            self.verdicts[asked] = judged(dict(asked), self.profile, self.with_ferries, self.excluded)
+            self.verdicts[asked] = judged(
+                dict(asked), self.profile, self.with_ferries, self.excluded)
         return self.verdicts[asked]
 
     def rule_by(self, verdict: Verdict, number: int) -> Rule | None:
@@ -168,22 +181,28 @@ class Survey:
         return None if self.streets is None else self.streets.add(way)
 
     def add_way(
-        self, number: int, rule: Rule, nodes: Sequence[int], longitudes: Sequence[float] = (), latitudes: Sequence[float] = (),
-        streets: tuple[int, int] | None = None,
+        self, number: int, rule: Rule, nodes: Sequence[int], longitudes: Sequence[float] = (),
+        latitudes: Sequence[float] = (), streets: tuple[int, int] | None = None,
     ) -> None:
-        """Adds a road through these nodes, with their places if they are known already. Repeated nodes are dropped."""
+        """Adds a road through these nodes, with their places if they are known already. Repeated
+        nodes are dropped."""
         if any(map(operator.eq, nodes, nodes[1:])):
             is_kept = [True, *map(operator.ne, nodes, nodes[1:])]
             nodes = list(itertools.compress(nodes, is_kept))
-            longitudes, latitudes = (list(itertools.compress(part, is_kept)) for part in (longitudes, latitudes))
+            longitudes, latitudes = (
+                list(itertools.compress(part, is_kept)) for part in (longitudes, latitudes))
         if len(nodes) < 2:
             self.report.note("short", "", "way", number)
             self.lone_nodes.update(nodes)
         else:
-            self.roads.append(Road(number, rule, array.array("q", nodes), array.array("d", longitudes), array.array("d", latitudes), streets))
+            self.roads.append(
+                Road(
+                    number, rule, array.array("q", nodes), array.array("d", longitudes),
+                    array.array("d", latitudes), streets))
 
     def place_roads(self, places: Mapping[int, Point]) -> None:
-        """Adds the places of the roads' nodes, {number: (longitude, latitude)}, if they were not known when the roads were added."""
+        """Adds the places of the roads' nodes, {number: (longitude, latitude)}, if they were not
+        known when the roads were added."""
         for road in self.roads:
             longitudes, latitudes = zip(*(places.get(node, NOWHERE) for node in road.nodes))
             road.longitudes.extend(longitudes)
@@ -199,16 +218,19 @@ class Survey:
 
     def add_barrier(self, number: int, node: tags.Tags) -> None:
         """Adds a node with a barrier, by its tags."""
-        self.barriers[number] = {key: value for key, value in node.items() if key in self.barrier_keys}
+        self.barriers[number] = {
+            key: value for key, value in node.items() if key in self.barrier_keys}
 
     def nodes(self) -> Iterator[int]:
         """Yields the nodes of the roads, one road after the other."""
         return itertools.chain.from_iterable(road.nodes for road in self.roads)
 
     def closed_nodes(self) -> set[int]:
-        """The nodes of roads that a barrier closes. They are noted, and so are unknown kinds of barrier."""
+        """The nodes of roads that a barrier closes. They are noted, and so are unknown kinds of
+        barrier."""
         closed: set[int] = set()
-        for number in sorted(set(self.barriers).intersection(itertools.chain(self.nodes(), self.lone_nodes))):
+        for number in sorted(
+            set(self.barriers).intersection(itertools.chain(self.nodes(), self.lone_nodes))):
             notes: tags.Notes = []
             barrier = self.barriers[number]
             if tags.is_closed_barrier(barrier, self.profile.barriers, notes):

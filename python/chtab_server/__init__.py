@@ -4,7 +4,7 @@
 |---|---|
 | `service` | the answers to requests |
 | `serving` | the processes of the service, and listening |
-| `networks`, `stored` | networks and their files, and what is made of these and kept |
+| `networks`, `stored`, `mapped` | networks and their files, and what is made of these and kept in columns |
 | `queue` | the order in which requests are answered |
 | `requests` | requests in JSON, and their limits |
 | `faults` | the answers to requests that can't be answered |

@@ -21,7 +21,8 @@ import sys
 from collections.abc import Callable, Sequence
 from typing import TYPE_CHECKING, Any
 
-from chtab import cli, files
+import chtab_tools as cli
+from chtab import files
 from chtab.errors import ChtabError
 
 if TYPE_CHECKING:

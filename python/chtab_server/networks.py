@@ -15,7 +15,7 @@ from chtab._engine import forks
 from chtab._engine.in_process import InProcess
 from chtab.errors import ChtabError
 from chtab.network import Network
-from chtab._files.mapped import digest_of
+from chtab_server.mapped import digest_of
 from chtab_server import stored
 from chtab_server.osrm.answering import numbers_in
 from chtab_server.tiles import Tiles

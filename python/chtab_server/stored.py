@@ -10,7 +10,7 @@ from typing import TYPE_CHECKING, Any, NamedTuple, TypeVar
 import numpy
 
 from chtab import files
-from chtab._files import mapped
+from chtab_server import mapped
 from chtab._roads.leaving import BothWays
 from chtab._roads.lines import Lines, Pieces, tree_of
 from chtab._roads.snapping import Origin, Roads

@@ -6,7 +6,7 @@ from typing import TYPE_CHECKING
 
 import numpy
 
-from chtab._roads import picture
+from chtab_tools import svg
 
 if TYPE_CHECKING:
     from chtab._roads.snapping import Roads
@@ -83,7 +83,7 @@ class Tiles:
         """These pieces of roads as an SVG path, in the units of a tile."""
         ends = numpy.round((self.ends[places] * scale - numpy.tile(corner, 2)) * SIDE * FINE).astype(int)
         ends = numpy.unique(ends, axis=0).tolist() if len(ends) else []
-        return picture.path([((a, b), (c, d)) for a, b, c, d in ends])
+        return svg.path([((a, b), (c, d)) for a, b, c, d in ends])
 
 
 def stroke(line: str, colour: str, pixels: float) -> str:

@@ -27,3 +27,12 @@ def handle_of(graph=FIRST, saved=FIRST_SAVED):
     handle = library.Handle(library.loaded(make()))
     handle.open(pathlib.Path(graph).read_bytes(), pathlib.Path(saved).read_bytes())
     return handle
+
+
+def route(handle, source, target):
+    """The weight of a route between two nodes, from 0 on, and its nodes; -1 and none where there is no walk."""
+    import numpy
+
+    ends = (numpy.array([node], numpy.uint32) for node in (source, target))
+    weights, _, nodes, _ = handle.routes_with_lines(*ends, handle.nodes())
+    return int(weights[0]), nodes

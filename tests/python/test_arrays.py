@@ -51,7 +51,7 @@ def test_random_arcs_answer_as_scipy(random_graphs):
         with of_arrays(*columns, nodes=forms_of(draw, labels)) as network:
             assert network.nodes == count and network.labels.tolist() == labels.tolist() and network.rounding == 0.0
             assert numpy.array_equal(network.table(labels, labels), wanted), seed
-            assert numpy.array_equal(network.table(labels.tolist(), labels, 7), numpy.where(wanted > 7, -1, wanted)), seed
+            assert numpy.array_equal(network.table(labels.tolist(), labels, within=7), numpy.where(wanted > 7, -1, wanted)), seed
             rows, targets = draw.integers(0, count, (2, 20))
             assert numpy.array_equal(network.distances(labels[rows], labels[targets]), wanted[rows, targets]), seed
             pairs = list(zip(labels[rows].tolist(), labels[targets].tolist()))
@@ -165,7 +165,7 @@ def test_a_folder_is_opened_again():
     assert made.labels.tolist() == ["a", "b", "c"]
     with chtab.Network.open("own", program=PROGRAM) as network:
         assert repr(network) == text and network.labels.tolist() == ["a", "b", "c"] and (network.scale, network.rounding) == (10, 0.5)
-        nodes, metres = network.nearest([9.51, 9.69], [47.0, 47.2])
+        nodes, metres = network.nearest_nodes([9.51, 9.69], [47.0, 47.2])
         assert nodes.tolist() == ["a", "c"] and metres.max() < 1_000
         lines = network.routes([("a", "c")]).to_geojson()["features"]
         assert lines[0]["geometry"]["coordinates"] == [(9.5, 47.0), (9.6, 47.1), (9.7, 47.2)] and lines[0]["properties"]["from"] == "a"
@@ -443,6 +443,6 @@ def test_osmnx_takes_the_map():
                     arcs = [streets[tail][head].values() for tail, head in zip(route.nodes or [], (route.nodes or [])[1:])]
                     real = sum(min(edge[weight] for edge in between) for between in arcs) * scale
                     assert route.weight is None or abs(route.weight - real) <= (len(arcs) + 1) * network.rounding, (source, target)
-            nodes, metres = network.nearest([9.5209], [47.1410])
+            nodes, metres = network.nearest_nodes([9.5209], [47.1410])
             assert nodes[0] == osmnx.nearest_nodes(streets, 9.5209, 47.1410) and metres[0] < 200
             assert len(network.routes([(labels[0], labels[1])]).to_geojson()["features"]) <= 1

@@ -248,37 +248,19 @@ def test_arrays_that_are_handed_out_are_read_only():
 
 
 def test_what_comes_third_is_named():
-    """Where calls differ in it. By position it is what it was, with a warning."""
-    import pandas
-
+    """Where calls differ in it."""
     with of_country() as network:
         spots = network.snap(*zip(VADUZ, MALBUN))
-        targets, jobs = [2, 9, 500], pandas.Series([100, 200], index=[1, 2])
-        for call, words, named in (
-            (network.table, ([1], targets, 3), {"within": 3}), (network.frame, ([1], targets, 3), {"within": 3}),
-            (network.trip_table, (spots, spots, 3), {"within": 3}), (network.near, ([1], targets, 2), {"count": 2}),
-            (network.nearest_targets, ([1], targets, 2), {"count": 2}), (network.accessibility, (jobs, 1, [500]), {"sources": [500]}),
+        for call, words in (
+            (network.table, ([1], [2], 3)), (network.frame, ([1], [2], 3)), (network.trip_table, (spots, spots, 3)), (network.near, ([1], [2], 2)),
+            (network.nearest_targets, ([1], [2], 2)), (network.accessibility, (1, 5, [500])),
         ):
-            with pytest.warns(FutureWarning, match=f"{call.__name__} takes {next(iter(named))}=.. by name"):
-                found = call(*words)
-            with warnings.catch_warnings():
-                warnings.simplefilter("error")
-                assert str(call(*words[:2], **named)) == str(found), call
-        raises(TypeError, network.table, [1], [2], 3, 4)
+            raises(TypeError, call, *words, told="positional arguments")
 
 
-def test_former_names_warn():
-    with of_country() as network:
-        for former, name, words in (
-            ("nearest", "nearest_nodes", VADUZ), ("nearest_of", "nearest_targets", ([1], [2])), ("matrix", "table", ([1], [2])),
-            ("sum_within", "accessibility", (1, 5)),
-        ):
-            with pytest.warns(DeprecationWarning, match=f"{former} is {name} now"):
-                found = getattr(network, former)(*words)
-            assert str(found) == str(getattr(network, name)(*words))
-        for more in {"runs": 4}, {"routes": True}, {"library": False}:
-            with pytest.warns(FutureWarning, match="no effect"):
-                chtab.Network.open(FIRST, program=PROGRAM, **more).close()
+def test_library_is_no_choice():
+    with pytest.warns(FutureWarning, match="no effect"):
+        chtab.Network.open(FIRST, program=PROGRAM, library=False).close()
 
 
 def test_sums_along_routes_are_of_finite_numbers():

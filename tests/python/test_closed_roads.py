@@ -12,6 +12,7 @@ from helpers.scenarios import trips_of, with_turns
 from oracles import dijkstra
 import chtab
 from chtab import files
+from chtab_server.osrm.nearby import find_facing
 
 pytestmark = [needs("python3-numpy"), pytest.mark.usefixtures("program")]
 
@@ -82,7 +83,7 @@ def test_a_crossing_is_closed():
             with network.changed(closed=closed) as other:
                 assert numpy.array_equal(other.table(range(6), range(6)), both([arc for arc in arcs if 2 not in arc[:2]]))
         x, y = on_line(lines[0])
-        with network.changed(closed=network.roads.find_facing(x, y, 90, 30)) as other:
+        with network.changed(closed=find_facing(network.roads, x, y, 90, 30)) as other:
             apart = other.distances([(0, 1), (1, 0)]).tolist()
             assert apart == [min(weights[1:3]), 1], (apart, weights)
 

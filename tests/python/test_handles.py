@@ -13,7 +13,7 @@ import pytest
 
 from helpers import ways
 from helpers.commands import raises
-from helpers.handles import FIRST, FIRST_SAVED, GRAPH, handle_of, of_country, of_first
+from helpers.handles import FIRST, FIRST_SAVED, GRAPH, handle_of, of_country, of_first, route
 from helpers.in_process import growth, make
 from helpers.marks import needs
 from helpers.nearness import dense, small_portions
@@ -38,9 +38,9 @@ def test_a_closed_handle_answers_nothing():
     other = handle.share()
     handle.close()
     handle.close()
-    assert other.distances(one, one).tolist() == [0] and other.route(0, 2)[0] == 9
+    assert other.distances(one, one).tolist() == [0] and route(other, 0, 2)[0] == 9
     for each in closed, handle:
-        for call, words in (each.distances, (one, one)), (each.table, (one, one)), (each.route, (0, 1)), (each.nodes, ()), (each.share, ()), (each.save, ()), \
+        for call, words in (each.distances, (one, one)), (each.table, (one, one)), (each.routes_with_lines, (one, one, 3)), (each.nodes, ()), (each.share, ()), (each.save, ()), \
                 (each.keep_places, (one,)), (each.sweep, ()), (each.near_rows, (one, 1)):
             raises(chtab.ChtabError, call, *words, told="the network is closed")
         raises(chtab.ChtabError, library.Handle(library.loaded(make())).open_like, FIRST.read_bytes(), each, 5, told="the network is closed")
@@ -50,7 +50,7 @@ def test_a_closed_handle_answers_nothing():
     with of_first() as network:
         assert network.distances([(1, 3)]).tolist() == [9]
     for call, words in (network.distances, ([(1, 3)],)), (network.table, ([1], [3])), (network.routes, ([(1, 3)],)), (network.near, ([1], [3])), \
-            (network.near, (None, [3])), (network.sum_within, (1, 5)), (network.nearest_of, ([1, 2], [3])):
+            (network.near, (None, [3])), (network.accessibility, (1, 5)), (network.nearest_targets, ([1, 2], [3])):
         raises(chtab.ChtabError, call, *words, told="the network is closed")
     network.close()
     raises(chtab.ChtabError, network._engine.load, told="the network is closed")
@@ -110,13 +110,13 @@ def test_near_rows_come_in_portions():
         for sources in None, some, numpy.append(some, numpy.arange(1, network.nodes + 1)):
             for count, within, direction in (None, None, "to"), (3, None, "from"), (None, 300_000, "to"), (2, 90_000, "from"):
                 with small_portions(1 << 20, 0, 1 << 13):
-                    wanted = network.near(sources, targets, count, within, direction)
+                    wanted = network.near(sources, targets, count=count, within=within, direction=direction)
                 for pairs, swept, together in (1, 10**9, 7), (50, 10**9, 1), (1_000, 30_000, 100), (1 << 20, 1 << 24, 1 << 13):
                     with small_portions(pairs, swept, together):
-                        found = network.near(sources, targets, count, within, direction)
+                        found = network.near(sources, targets, count=count, within=within, direction=direction)
                     assert all(numpy.array_equal(getattr(found, name), getattr(wanted, name)) for name in ("offsets", "places", "weights"))
                 if sources is not None and count is None:
-                    assert numpy.array_equal(dense(wanted)[:200], network.table(sources[:200], targets, within)), (within, direction)
+                    assert numpy.array_equal(dense(wanted)[:200], network.table(sources[:200], targets, within=within)), (within, direction)
 
 
 def test_threads_ask_while_it_is_closed():
@@ -201,8 +201,8 @@ def test_what_is_dropped_is_freed():
 
     def near():
         with of_country() as network:
-            network.nearest_of(None, [1, 2, 3], 2)
-            raises(ZeroDivisionError, network.sum_within, 1, 90_000, [1, 2], [3], lambda weights: weights / (1 // 0))
+            network.nearest_targets(None, [1, 2, 3], count=2)
+            raises(ZeroDivisionError, lambda: network.accessibility(1, 90_000, sources=[1, 2], targets=[3], decay=lambda weights: weights / (1 // 0)))
 
     for work in dropped, closed, in_ring, faulty, near:
         assert growth(work, 60) < MOST_GROWTH, work.__name__

@@ -16,6 +16,7 @@ import pytest
 
 from helpers import ways
 from helpers.commands import raises
+from helpers.handles import route
 from helpers.in_process import make
 from helpers.maps import COUNTRY
 from helpers.marks import needs
@@ -109,16 +110,16 @@ def test_limits_are_exact():
     files.write_graph("far.gr", 3, [(1, 2, far), (2, 3, 1)])
     with chtab.Network.open("far.gr", program=PROGRAM) as network:
         for within in far, numpy.int64(far), numpy.uint64(far), fractions.Fraction(2 * far + 1, 2), decimal.Decimal(far):
-            assert network.table([1], [2, 3], within).tolist() == [[far, -1]], repr(within)
+            assert network.table([1], [2, 3], within=within).tolist() == [[far, -1]], repr(within)
             assert network.near([1], [2, 3], within=within).weights.tolist() == [far], repr(within)
         for within in far - 1, float(far - 1), numpy.float64(far - 1), numpy.uint64(far - 1), numpy.float32(far - 1):
-            assert network.table([1], [2, 3], within).tolist() == [[-1, -1]], repr(within)
+            assert network.table([1], [2, 3], within=within).tolist() == [[-1, -1]], repr(within)
             assert network.near([1], [2, 3], within=within).weights.tolist() == [], repr(within)
-        assert network.table([1], [2, 3], 2**60).tolist() == [[far, far + 1]] and network.table([1], [1, 2], 0).tolist() == [[0, -1]]
+        assert network.table([1], [2, 3], within=2**60).tolist() == [[far, far + 1]] and network.table([1], [1, 2], within=0).tolist() == [[0, -1]]
         limits = [float(far - 1), far, numpy.int64(far), 2.0**54, 2**60]
-        assert network.sum_within([1, 1], limits, [1], [2, 3]).tolist() == [[0, 1, 1, 2, 2]]
+        assert network.accessibility([1, 1], limits, sources=[1], targets=[2, 3]).tolist() == [[0, 1, 1, 2, 2]]
         for within in -1, 2**60 + 1, float("nan"), float("-inf"), numpy.float64("nan"), numpy.int64(-1), numpy.uint64(2**63):
-            for call in lambda: network.table([1], [2], within), lambda: network.near([1], [2], within=within), lambda: network.sum_within(1, [5, within]):
+            for call in lambda: network.table([1], [2], within=within), lambda: network.near([1], [2], within=within), lambda: network.accessibility(1, [5, within]):
                 raises(ValueError, call, told="a limit is from 0 to 2^60")
 
 
@@ -131,17 +132,17 @@ def test_what_is_out_of_size_is_taken_or_refused():
         for count in 2**31, 2**32, 2**63, 2**70, numpy.int64(2**62):
             for length in 2, 2**16:
                 with small_blocks(length, 10):
-                    near = network.near(None, ["c", "b", "c"], count)
+                    near = network.near(None, ["c", "b", "c"], count=count)
                     assert rows_told(near) == rows_told(network.near(None, ["c", "b", "c"])) and near.offsets.dtype == numpy.int64, (count, length)
-        assert network.nearest_of(["a"], ["b"], 2**50).weights.shape == (1, 1)
-        assert network.nearest_of(["a"], ["b"], 1).weights.tolist() == [[4]]
+        assert network.nearest_targets(["a"], ["b"], count=2**50).weights.shape == (1, 1)
+        assert network.nearest_targets(["a"], ["b"], count=1).weights.tolist() == [[4]]
         for masked in numpy.ma.masked, numpy.ma.array(5, mask=True), None, "5", 5j, float("nan"), numpy.float64("inf"):
             for targets in (None, ["b"]):
-                raises(chtab.DataFault, network.sum_within, masked, 5, None, targets, told="values")
+                raises(chtab.DataFault, lambda: network.accessibility(masked, 5, targets=targets), told="values")
         for value in 2, 2.0, numpy.int8(2), numpy.float32(2), numpy.array(2), numpy.array(2.0, ">f4"), numpy.uint64(2):
-            assert network.sum_within(value, 5).tolist() == [4, 4, 6], repr(value)
+            assert network.accessibility(value, 5).tolist() == [4, 4, 6], repr(value)
         for values in numpy.uint64(2**63), [numpy.uint64(2**63), 1, 2], numpy.array([2**63, 1, 2], numpy.uint64), [2**63, 1.5, 2]:
-            raises(chtab.DataFault, network.sum_within, values, 5, told="too large")
+            raises(chtab.DataFault, network.accessibility, values, 5, told="too large")
 
 
 def test_labels_are_of_any_size():
@@ -205,19 +206,18 @@ def test_a_question_within_another_spoils_none():
 
     handle = library.Handle(library.loaded(make()))
     handle.open(FIRST.read_bytes(), FIRST_SAVED.read_bytes())
-    find, inner = handle.find, []
+    ask, inner = handle.ask, []
 
     def asks_in_between(*words):
-        status, handle.find = find(*words), find
-        inner.append(handle.route(1, 2))
+        status, handle.ask = ask(*words), ask
+        inner.append(route(handle, 1, 2))
         return status
 
-    for room in 1_024, 1, 2:
-        handle.find = asks_in_between
-        weight, nodes = handle.route(0, 2)
+    for _ in range(3):
+        handle.ask = asks_in_between
+        weight, nodes = route(handle, 0, 2)
         assert (weight, nodes.tolist()) == (9, [0, 1, 2]), (weight, nodes)
         assert (inner[-1][0], inner[-1][1].tolist()) == (5, [1, 2]), inner[-1]
-        handle.room = room
 
 
 def test_threads_share_one_handle():
@@ -230,13 +230,13 @@ def test_threads_share_one_handle():
     handle.open(pathlib.Path(GRAPH).read_bytes(), ways.saved_for(GRAPH).read_bytes())
     draw, wrong = numpy.random.default_rng(2), []
     asked = [draw.integers(0, handle.nodes(), (2, 30)).astype(numpy.uint32) for _ in range(4)]
-    owed = [(handle.table(*each), [handle.route(*map(int, pair))[1].tolist() for pair in each.T]) for each in asked]
+    owed = [(handle.table(*each), [route(handle, *map(int, pair))[1].tolist() for pair in each.T]) for each in asked]
 
     def work(place, until_closed):
         own, (table, routes) = asked[place], owed[place]
         try:
             while time.monotonic() < until or until_closed:
-                found = [handle.route(*map(int, pair))[1].tolist() for pair in own.T]
+                found = [route(handle, *map(int, pair))[1].tolist() for pair in own.T]
                 if not ((handle.table(*own) == table).all() and (handle.distances(*own) == table.diagonal()).all() and found == routes):
                     wrong.append(place)
         except chtab.ChtabError as fault:
@@ -290,7 +290,7 @@ def test_a_lack_of_memory_is_told_and_over():
 
     with of_country() as network:
         nodes = numpy.arange(1, 1_501)
-        calls = lambda: network.table(nodes, nodes), lambda: network.near(None, nodes).weights, lambda: network.near(nodes, nodes, 900).places, \
+        calls = lambda: network.table(nodes, nodes), lambda: network.near(None, nodes).weights, lambda: network.near(nodes, nodes, count=900).places, \
             lambda: network.distances(nodes, nodes[::-1])
         wanted, count = [call() for call in calls], 0
         child = os.fork()
@@ -338,9 +338,9 @@ def test_a_fork_within_a_question_takes_no_handle():
                 child.append(os.fork())
             return weights * 0.5
 
-        found = network.sum_within(1, 9, decay=decay).tolist()
+        found = network.accessibility(1, 9, decay=decay).tolist()
         if not child[0]:
-            is_right = found == [6.5, 2.5, 0.0] == network.sum_within(1, 9, decay=lambda weights: weights * 0.5).tolist()
+            is_right = found == [6.5, 2.5, 0.0] == network.accessibility(1, 9, decay=lambda weights: weights * 0.5).tolist()
             is_own = network._engine.begun == 1 and [handle in network._engine.handles for handle in network._engine.spare] == [True]
             os._exit(0 if is_right and is_own else 1)
         assert os.waitpid(child[0], 0)[1] == 0 and found == [6.5, 2.5, 0.0] and len(network._engine.spare) == 1, found
@@ -356,10 +356,10 @@ def test_a_sweep_without_memory_is_left_out():
         raise chtab.ProgramFault("chtab: out of memory", 3)
 
     with of_country() as network:
-        wanted, sweep = network.near(None, [1, 2, 3], 2), library.Handle.sweep
+        wanted, sweep = network.near(None, [1, 2, 3], count=2), library.Handle.sweep
         library.Handle.sweep = refused
         try:
-            found = network.near(None, [1, 2, 3], 2)
+            found = network.near(None, [1, 2, 3], count=2)
         finally:
             library.Handle.sweep = sweep
         assert all(numpy.array_equal(getattr(found, name), getattr(wanted, name)) for name in ("offsets", "places", "weights"))
@@ -386,8 +386,8 @@ def test_a_call_of_seconds_hears_ctrl_c(monkeypatch):
     nodes = list(range(1, 601))
     for name, call in (
         ("open", lambda: of_country().close()), ("distances", lambda: network.distances(nodes, nodes)), ("table", lambda: network.table(nodes, nodes)),
-        ("keep_places", lambda: network.near([1], nodes, 1)), ("sweep", lambda: network.near(None, nodes, 1)), ("near_rows", lambda: network.near(nodes, [1])),
-        ("routes_with_lines", lambda: network.routes(nodes, nodes)), ("near_sums", lambda: network.sum_within(1, 2**60, nodes, nodes)),
+        ("keep_places", lambda: network.near([1], nodes, count=1)), ("sweep", lambda: network.near(None, nodes, count=1)), ("near_rows", lambda: network.near(nodes, [1])),
+        ("routes_with_lines", lambda: network.routes(nodes, nodes)), ("near_sums", lambda: network.accessibility(1, 2**60, sources=nodes, targets=nodes)),
     ):
         with of_country() as network:
             wanted, own = network.table(nodes[:9], nodes[:9]), getattr(library.Handle, name)
@@ -425,7 +425,7 @@ def test_what_is_long_hears_ctrl_c():
     """A table and near rows are broken off, long before they would end; the next question is answered."""
     with of_country() as network:
         nodes = list(range(1, network.nodes + 1)) * 8
-        for call in network.table, network.near, lambda sources, targets: network.sum_within(1, 2**60, sources, targets):
+        for call in network.table, network.near, lambda sources, targets: network.accessibility(1, 2**60, sources=sources, targets=targets):
             with alarm(interrupt, 0.5):
                 raises(KeyboardInterrupt, call, nodes, nodes)
             assert network.distances([(5, 5)]).tolist() == [0] and network.near([5], [5]).weights.tolist() == [0]
@@ -443,7 +443,7 @@ def test_time_is_looked_at_between_calls():
         try:
             for call in (
                 lambda: network.distances(nodes, nodes[::-1]), lambda: network.table([1], nodes), lambda: network.routes([(1, 2)] * 9_999),
-                lambda: network.near(nodes, [1]), lambda: network.sum_within(1, 2**60, nodes, [1]), lambda: network.nearest_of(nodes, [1]),
+                lambda: network.near(nodes, [1]), lambda: network.accessibility(1, 2**60, sources=nodes, targets=[1]), lambda: network.nearest_targets(nodes, [1]),
             ):
                 raises(chtab.TimedOut, call, told="longer than 4 seconds")
                 assert network.distances([(5, 5)]).tolist() == [0] and network.near([5], [5]).weights.tolist() == [0]

@@ -76,7 +76,7 @@ def test_each_long_call_says_how_far_it_is():
 def test_nothing_is_near_nothing():
     """Values of no target, and values that are all 0, are sums of 0 everywhere."""
     with of_minutes() as network:
-        assert network.sum_within(0, 5).tolist() == [0] * 5 and network.sum_within({}, [1, 2]).tolist() == [[0, 0]] * 5
+        assert network.accessibility(0, 5).tolist() == [0] * 5 and network.accessibility({}, [1, 2]).tolist() == [[0, 0]] * 5
         assert network.accessibility([], 5, targets=[]).tolist() == [0] * 5
 
 

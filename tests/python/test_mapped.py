@@ -16,7 +16,7 @@ from chtab_server.osrm import url
 def written(path="columns"):
     """A file with columns of each type, and what it has."""
     import numpy
-    from chtab._files import mapped
+    from chtab_server import mapped
 
     columns = {
         "numbers": numpy.arange(1_000), "marks": numpy.arange(7) % 2 == 0, "text": numpy.frombuffer(b"text", numpy.uint8),
@@ -29,7 +29,7 @@ def written(path="columns"):
 
 def fault_of(path, sums):
     """The fault of a file of columns, empty if it is read."""
-    from chtab._files import mapped
+    from chtab_server import mapped
 
     try:
         mapped.read(path, sums)
@@ -40,7 +40,7 @@ def fault_of(path, sums):
 
 @needs("python3-numpy")
 def test_columns_are_those_that_were_written():
-    from chtab._files import mapped
+    from chtab_server import mapped
 
     columns = written()
     found = mapped.read("columns", {"gr": "a"})
@@ -56,7 +56,7 @@ def test_columns_are_those_that_were_written():
 @needs("python3-numpy")
 def test_spoilt_files_are_refused():
     """Each byte of the line and of the columns counts, and so does each length."""
-    from chtab._files import mapped
+    from chtab_server import mapped
 
     columns = written()
     data, draw = pathlib.Path("columns").read_bytes(), random.Random("spoilt")

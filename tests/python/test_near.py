@@ -64,15 +64,15 @@ def answers_as_owed(network, draw, labels, least):
     turned = least if direction == "to" else least.T
     given = None if sources is None else forms_of(draw, labels[sources]), forms_of(draw, labels[targets])
     owed = rows_owed(turned, own, targets, count, within)
-    near = network.near(*given, count, within, direction)
+    near = network.near(*given, count=count, within=within, direction=direction)
     assert rows_told(near) == owed, (question, rows_told(near), owed)
     assert near.offsets.dtype == near.places.dtype == near.weights.dtype == numpy.int64
     assert near.sources.tolist() == labels[own].tolist() and near.targets.tolist() == labels[targets].tolist()
-    found, width = network.nearest_of(*given, count or 3, within, direction), max(1, min(count or 3, len(targets)))
+    found, width = network.nearest_targets(*given, count=count or 3, within=within, direction=direction), max(1, min(count or 3, len(targets)))
     assert [part.tolist() for part in found[:2]] == dense_owed(rows_owed(turned, own, targets, count or 3, within), width), question
     assert found.places.shape == (len(own), width) and numpy.array_equal(found.mask, found.places < 0)
     values, limits = draw.integers(-5, 9, len(targets)), [within or 7, 3]
-    sums = network.sum_within(values, limits, *given, direction=direction)
+    sums = network.accessibility(values, limits, sources=given[0], targets=given[1], direction=direction)
     wanted = [sums_owed(turned, own, targets, values.tolist(), limit) for limit in limits]
     assert sums.shape == (len(own), 2) and sums.T.tolist() == wanted, (question, sums, wanted)
 
@@ -93,8 +93,8 @@ def test_random_graphs_answer_as_networkx():
             least[source, list(row)] = list(row.values())
         with chtab.Network.from_networkx(graph, "weight", None, program=PROGRAM, load=False) as network:
             targets = draw.integers(0, 25, 12)
-            assert rows_told(network.near(None, targets, 4)) == rows_owed(least, range(25), targets, 4), seed
-            assert rows_told(network.near(targets, range(25), None, 8, "from")) == rows_owed(least.T, targets, range(25), None, 8), seed
+            assert rows_told(network.near(None, targets, count=4)) == rows_owed(least, range(25), targets, 4), seed
+            assert rows_told(network.near(targets, range(25), count=None, within=8, direction="from")) == rows_owed(least.T, targets, range(25), None, 8), seed
 
 
 @needs("python3-scipy", "python3-pandas")
@@ -121,8 +121,8 @@ def test_forms_of_an_answer():
             near = network.near(sources, targets)
             assert len(near) == (3 if sources is None else len(sources)) and near.places.size == 0 and near.offsets.tolist() == [0] * (len(near) + 1)
             assert near.to_frame().empty and near.to_sparse().shape == (len(near), len(targets))
-            assert network.nearest_of(sources, targets, 2).places.tolist() == [[-1]] * len(near)
-            assert network.sum_within([1.0] * len(targets), [5, 9], sources, targets).tolist() == [[0.0, 0.0]] * len(near)
+            assert network.nearest_targets(sources, targets, count=2).places.tolist() == [[-1]] * len(near)
+            assert network.accessibility([1.0] * len(targets), [5, 9], sources=sources, targets=targets).tolist() == [[0.0, 0.0]] * len(near)
 
 
 @needs("python3-scipy", "python3-pandas")
@@ -139,19 +139,19 @@ def test_sums_take_values_in_each_form():
         for limit, sums in wanted.items():
             for values, targets in (jobs, None), (pd_series := pandas.Series(jobs), None), ([10, 2.5], ["b", "c"]), (numpy.array([0, 10, 2.5]), None), \
                     ([2.5, 4, 6], ["c", "b", "b"]):
-                assert network.sum_within(values, limit, targets=targets).tolist() == sums, (limit, values)
-            assert network.sum_within(pd_series, limit, ["c", "a"]).tolist() == [sums[2], sums[0]]
-        found = network.sum_within(jobs, [*wanted], decay=None)
-        assert found.dtype == float and found.T.tolist() == [*wanted.values()] and network.sum_within(jobs, []).shape == (3, 0)
-        assert network.sum_within(1, 5).tolist() == [2, 2, 3] and network.sum_within(0.5, 4, targets=["b", "b"]).tolist() == [1, 1, 0]
-        assert network.sum_within(jobs, 7.5).tolist() == wanted[5]
-        assert network.sum_within(jobs, 7.5, ["b"], decay="linear").tolist() == [10 + 2.5 * (1 - 5 / 7.5)]
+                assert network.accessibility(values, limit, targets=targets).tolist() == sums, (limit, values)
+            assert network.accessibility(pd_series, limit, sources=["c", "a"]).tolist() == [sums[2], sums[0]]
+        found = network.accessibility(jobs, [*wanted], decay=None)
+        assert found.dtype == float and found.T.tolist() == [*wanted.values()] and network.accessibility(jobs, []).shape == (3, 0)
+        assert network.accessibility(1, 5).tolist() == [2, 2, 3] and network.accessibility(0.5, 4, targets=["b", "b"]).tolist() == [1, 1, 0]
+        assert network.accessibility(jobs, 7.5).tolist() == wanted[5]
+        assert network.accessibility(jobs, 7.5, sources=["b"], decay="linear").tolist() == [10 + 2.5 * (1 - 5 / 7.5)]
         for decay, share in (
             ("linear", lambda weight, limit: 1 - weight / limit), ("exponential", lambda weight, limit: math.exp(-weight / limit)),
             (lambda weights: 1 / (1 + weights), lambda weight, limit: 1 / (1 + weight)), (lambda weights: 0.5, lambda weight, limit: 0.5),
         ):
             owed = [[sum(v * share(w, r) for v, w in zip((10, 2.5), least[label]) if w <= r) for r in (5, 9)] for label in "abc"]
-            assert numpy.allclose(network.sum_within(jobs, [5, 9], decay=decay), owed, rtol=1e-12, atol=0), decay
+            assert numpy.allclose(network.accessibility(jobs, [5, 9], decay=decay), owed, rtol=1e-12, atol=0), decay
         for values, more, column, row, told in (
             ([1, math.nan], {"targets": ["a", "b"]}, "values", 1, "nan is no value"), ([1.0], {"targets": ["a", "b"]}, "values", None, "1 rows, and there are 2 targets"),
             ([1, 2], {}, "values", None, "2 rows, and there are 3 nodes"), ([1, math.inf, 2], {}, "values", 1, "inf is no value"),
@@ -159,7 +159,7 @@ def test_sums_take_values_in_each_form():
             (numpy.ones((3, 1, 1)), {}, "values", None, "shape (3, 1, 1)"), ({"x": 1.0}, {}, "targets", 0, "no node has the label 'x'"),
             (numpy.ma.array([1, 2, 3], mask=[0, 0, 1]), {}, "values", 2, "is masked"),
         ):
-            fault = raises(chtab.DataFault, lambda: network.sum_within(values, 5, **more), told=told)
+            fault = raises(chtab.DataFault, lambda: network.accessibility(values, 5, **more), told=told)
             assert (fault.column, fault.row) == (column, row), (fault.column, fault.row, told)
 
 
@@ -175,13 +175,13 @@ def test_what_is_no_question_is_refused():
             raises(kind, lambda: network.near([1], [2], **words), told=told)
         raises(ValueError, network.near, [4], [1], told="node 4 is not from 1 to 3")
         raises(ValueError, network.near, None, [0], told="node 0")
-        raises(ValueError, lambda: network.nearest_of([1], [2], 0), told="count")
-        raises(TypeError, lambda: network.nearest_of([1], [2], None))
+        raises(ValueError, lambda: network.nearest_targets([1], [2], count=0), told="count")
+        raises(TypeError, lambda: network.nearest_targets([1], [2], count=None))
         for within, decay, told in (
             (5, "flat", "'flat'"), (0, "linear", "above 0"), ([5, 0], "exponential", "above 0"), ([-1], None, "2^60"), ([[1]], None, "one list"),
             (9, lambda weights: weights[:1], "gave the shape (1,)"),
         ):
-            raises(ValueError, lambda: network.sum_within(1, within, decay=decay), told=told)
+            raises(ValueError, lambda: network.accessibility(1, within, decay=decay), told=told)
     raises(chtab.ChtabError, network.near, [1], [2], told="closed")
 
 
@@ -203,10 +203,10 @@ def test_blocks_answer_as_one_run():
         for length, pairs, workers in (10, 10**6, 1), (10, 10**6, 3), (7, 30, 2), (64, 40, 1), (64, 10**6, 5):
             with small_blocks(length, pairs):
                 for own, rows in (sources, sources), (None, range(count)):
-                    assert rows_told(network.near(own, targets, 4, 6, workers=workers)) == rows_owed(least, rows, targets, 4, 6), (length, workers)
+                    assert rows_told(network.near(own, targets, count=4, within=6, workers=workers)) == rows_owed(least, rows, targets, 4, 6), (length, workers)
                     assert rows_told(network.near(own, targets, workers=workers)) == rows_owed(least, rows, targets), (length, workers)
                     owed = [sums_owed(least, rows, targets, values.tolist(), limit) for limit in (1, 6)]
-                    assert network.sum_within(values, [1, 6], own, targets, workers=workers).T.tolist() == owed, (length, workers)
+                    assert network.accessibility(values, [1, 6], sources=own, targets=targets, workers=workers).T.tolist() == owed, (length, workers)
 
 
 def test_blocks_are_within_their_limits():
@@ -240,11 +240,11 @@ def test_a_cluster_answers_too():
     with distributed.LocalCluster(n_workers=2, threads_per_worker=1, dashboard_address=None) as cluster, distributed.Client(cluster) as client:
         with chtab.Network.open(FIRST, program=PROGRAM, load=False) as network, small_blocks(2, 10):
             assert rows_told(network.near([1, 2, 3, 1, 1], [3, 1, 2], workers=client)) == rows_told(network.near([1, 2, 3, 1, 1], [3, 1, 2]))
-            sums = network.sum_within([1, 2, 4], [5, 9], targets=[3, 1, 2], decay=lambda weights: numpy.exp(-weights / 3.0), workers=client)
-            assert numpy.allclose(sums, network.sum_within([1, 2, 4], [5, 9], targets=[3, 1, 2], decay=lambda weights: numpy.exp(-weights / 3.0)))
+            sums = network.accessibility([1, 2, 4], [5, 9], targets=[3, 1, 2], decay=lambda weights: numpy.exp(-weights / 3.0), workers=client)
+            assert numpy.allclose(sums, network.accessibility([1, 2, 4], [5, 9], targets=[3, 1, 2], decay=lambda weights: numpy.exp(-weights / 3.0)))
         pathlib.Path("bad.gr").write_text("p sp 2 2\na 1 2 1\n")
         with chtab.Network.open("bad.gr", program=PROGRAM, load=False) as network:
-            assert raises(chtab.ProgramFault, lambda: network.near([1, 2], [2, 1], 1, workers=client), told="graph line 3: too few lines").status == 1
+            assert raises(chtab.ProgramFault, lambda: network.near([1, 2], [2, 1], count=1, workers=client), told="graph line 3: too few lines").status == 1
         with chtab.Network.open(FIRST, program=PROGRAM, load=False) as network:
             assert network.near([1], [3], workers=client).weights.tolist() == [9]
 
@@ -254,7 +254,7 @@ def test_a_cluster_answers_too():
 
 def owed_here(_):
     """What a process that was forked is told by the network of its parent."""
-    return rows_told(NETWORK.near(None, [3, 1])), NETWORK.sum_within(1, 5, workers=2).tolist()
+    return rows_told(NETWORK.near(None, [3, 1])), NETWORK.accessibility(1, 5, workers=2).tolist()
 
 
 def owed_there(network):

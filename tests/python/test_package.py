@@ -76,8 +76,8 @@ def test_what_is_told_of_the_package():
     assert dir(chtab) == sorted(chtab.__all__) and all(hasattr(chtab, name) for name in chtab.__all__)
     assert {*chtab.__all__} == {"Network", "Routes", "Near", "Spots", "ChtabError", *ERRORS, "__version__"}
     wanted = "accessibility along answers_by assign changed close components coordinates crossings distances flows flows_table frame from_arrays from_frame from_geodataframe "
-    wanted += "from_networkx from_sparse graph isochrones labels matrix near nearest nearest_nodes nearest_of nearest_targets nodes nodes_to_geodataframe open plot "
-    wanted += "reach roads rounding routes scale snap sum_within table to_geodataframe trip_routes trip_table trips unit"
+    wanted += "from_networkx from_sparse graph isochrones labels near nearest_nodes nearest_targets nodes nodes_to_geodataframe open plot "
+    wanted += "reach roads rounding routes scale snap table to_geodataframe trip_routes trip_table trips unit"
     assert [name for name in dir(chtab.Network) if not name.startswith("_")] == wanted.split()
     text = pydoc.render_doc(chtab.Network)
     assert "Parameters" in text and "Raises" in text and "leave_parent" not in text, text
@@ -113,8 +113,6 @@ def public_calls():
     for kind in chtab.Network, Routes, Near, Nearest, TripRoutes, Isochrones:
         for name in filter(lambda name: name[0] != "_", dir(kind)):
             call = getattr(kind, name)
-            if (inspect.getdoc(call) or "").startswith("The former name of "):
-                continue
             if "Returns" in (inspect.getdoc(call) or "") or kind is chtab.Network:
                 yield f"{kind.__name__}.{name}", call
 
@@ -167,7 +165,7 @@ def test_random_graphs_answer_as_dijkstra():
             assert found.dtype == numpy.int64 and found.tolist() == wanted, (seed, found, wanted)
             for within in None, case.limit:
                 rows = [row.split()[2:] for row in case.table(*([] if within is None else [within])).splitlines()]
-                table = network.table(*case.lists, within)
+                table = network.table(*case.lists, within=within)
                 assert table.shape == tuple(map(len, case.lists)), table.shape
                 assert table.tolist() == [[-1 if cell == "-" else int(cell) for cell in row] for row in rows], (seed, within)
             routes = network.routes(case.queries)
@@ -209,7 +207,7 @@ def test_what_is_not_a_question_is_refused():
     with chtab.Network.open(FIRST, program=PROGRAM) as network:
         for pairs, told in ([(1, 4)], "node 4 is not from 1 to 3"), ([(0, 1)], "node 0"), ([1, 2, 3], "shape (n, 2)"), ([(1.5, 2)], "whole number"):
             raises(ValueError, network.distances, pairs, told=told)
-        raises(ValueError, network.table, [1], [2], -1, told="limit")
+        raises(ValueError, lambda: network.table([1], [2], within=-1), told="limit")
         assert network.distances([]).shape == (0,) and network.table([], [1]).shape == (0, 1) and len(network.routes([])) == 0
         raises(chtab.ChtabError, lambda: network.coordinates, told="no file of coordinates")
     raises(chtab.ChtabError, network.distances, [(1, 2)], told="closed")
@@ -252,8 +250,8 @@ def test_frames_and_features():
     import pandas
 
     with chtab.Network.open(f"{COUNTRY}.gr", program=PROGRAM) as network:
-        nodes, metres = network.nearest(*zip(VADUZ, MALBUN))
-        assert nodes.tolist() == [72, network.nearest(*MALBUN)[0][0]] and metres.max() < 100
+        nodes, metres = network.nearest_nodes(*zip(VADUZ, MALBUN))
+        assert nodes.tolist() == [72, network.nearest_nodes(*MALBUN)[0][0]] and metres.max() < 100
         frame = network.frame(nodes, nodes)
         assert isinstance(frame, pandas.DataFrame) and frame.loc[nodes[0], nodes[1]] == network.distances(nodes[:1], nodes[1:])[0]
         routes = network.routes([nodes, nodes[::-1]])

@@ -35,10 +35,10 @@ def test_answers_are_in_the_unit_of_the_weights():
         assert network.routes([("farm", "mill")])[0][2:] == (3.75, ["farm", "inn", "mill"], [1.25, 2.5])
         near = network.near(["inn"], ["mill", "farm", "school"], within=2.5)
         assert (near.weights.tolist(), near.targets[near.places].tolist()) == ([1.25, 2.5], ["farm", "mill"])
-        assert network.nearest_of(["inn"], ["mill", "farm"], count=2).weights.tolist() == [[1.25, 2.5]]
-        assert network.accessibility({"mill": 10, "farm": 1}, [1.25, 2.5], ["inn"]).tolist() == [[1, 11]]
-        assert network.accessibility({"mill": 10}, 5, ["inn"], decay="linear").tolist() == [5.0]
-        assert network.accessibility({"mill": 10}, 5, ["inn"], decay=lambda minutes: minutes).tolist() == [25.0]
+        assert network.nearest_targets(["inn"], ["mill", "farm"], count=2).weights.tolist() == [[1.25, 2.5]]
+        assert network.accessibility({"mill": 10, "farm": 1}, [1.25, 2.5], sources=["inn"]).tolist() == [[1, 11]]
+        assert network.accessibility({"mill": 10}, 5, sources=["inn"], decay="linear").tolist() == [5.0]
+        assert network.accessibility({"mill": 10}, 5, sources=["inn"], decay=lambda minutes: minutes).tolist() == [25.0]
 
 
 def test_units_are_known_or_told():
@@ -117,7 +117,7 @@ def test_no_mean_is_over_minus_one():
             found = routes.to_frame()
             assert found.isna().to_numpy().tolist() == [[False, False, True, True, False], [False] * 5] and found.index.name == "query"
             assert found["weight"].mean() == 0 and found["nodes"].tolist() == [[], ["inn"]]
-        nearest = network.nearest_of(["inn", "house"], ["mill", "farm"], count=2)
+        nearest = network.nearest_targets(["inn", "house"], ["mill", "farm"], count=2)
         found = nearest.to_frame()
         assert found["weight"].mean() == (1.25 + 2.5) / 2 and found["target"].tolist()[:2] == ["farm", "mill"] and found["target"].isna().sum() == 2
         assert nearest.mask.tolist() == [[False, False], [True, True]] and nearest.places[1].tolist() == [-1, -1] and len(nearest) == 3
@@ -230,7 +230,7 @@ def test_geodataframes_go_in_and_out():
         assert frame.columns.tolist() == ["source", "target", "weight", "arcs", "nodes", "geometry"]
         frame = network.isochrones(network.snap([9.50], [47.10]), [2, 5]).to_geodataframe()
         assert frame["limit"].tolist() == [5, 2] and frame.geometry[0].contains(Point(9.52, 47.10)) and not frame.geometry[1].contains(Point(9.52, 47.10))
-        points = network.nearest_of(None, [3]).to_geodataframe()
+        points = network.nearest_targets(None, [3]).to_geodataframe()
         assert points["weight"].tolist() == [5.5, 1.0, 0.0] and points["target"].tolist() == [3, 3, 3] and list(points.geometry[0].coords) == [line[0]]
     # The metres of lines, whatever they are projected to.
     with chtab.Network.from_geodataframe(edges.to_crs(3857), both_ways=True, program=PROGRAM) as network:
@@ -256,7 +256,7 @@ def test_answers_are_shown():
         assert len(routes.plot().collections[0].get_paths()) == 2
         isochrones = network.isochrones(network.snap([9.5], [47.1]), [1])
         assert len(isochrones.plot().collections) == 1
-        nearest = network.nearest_of(None, names[:1])
+        nearest = network.nearest_targets(None, names[:1])
         assert len(nearest.plot().collections[0].get_offsets()) == 2
         for answer in routes, network.near(None, names), nearest, isochrones, network:
             text = answer._repr_html_()
@@ -269,7 +269,7 @@ def test_maps_to_move():
     """Maps by folium show names as text."""
     names = ["<script>a</script>", "b"]
     with chtab.Network.from_arrays(names, names[::-1], [1, 2], nodes=names, x=[9.5, 9.6], y=[47.1, 47.2], program=PROGRAM) as network:
-        for answer in network.routes([names, names[::-1]]), network.nearest_of(None, names[1:]):
+        for answer in network.routes([names, names[::-1]]), network.nearest_targets(None, names[1:]):
             text = answer.explore().get_root().render()
             assert "&lt;script&gt;a" in text and "<script>a</script>" not in text.replace("\\u003c", "<").split("GeoJson")[0]
 
@@ -325,9 +325,9 @@ def test_frames_of_values_make_frames():
     with of_minutes() as network:
         one = network.accessibility(values, 2.5)
         assert one.loc["inn"].to_dict() == {"jobs": 11.0, "is open": 1.0} and one.index.tolist() == network.labels.tolist()
-        several = network.accessibility(values, [1.25, 2.5], ["inn"])
+        several = network.accessibility(values, [1.25, 2.5], sources=["inn"])
         assert several.loc["inn", ("jobs", 1.25)] == 1 and several.loc["inn", ("is open", 2.5)] == 1 and several.columns.names == [None, "within"]
-        assert network.accessibility(values["jobs"], 2.5, ["inn"]).tolist() == [11] and network.accessibility({"mill": True}, 2.5, ["inn"]).tolist() == [1]
+        assert network.accessibility(values["jobs"], 2.5, sources=["inn"]).tolist() == [11] and network.accessibility({"mill": True}, 2.5, sources=["inn"]).tolist() == [1]
         fault = raises(chtab.DataFault, lambda: network.accessibility(values.assign(jobs=[1, numpy.nan]), 2.5), told="values['jobs'][1]")
         assert fault.row == 1
 
@@ -369,10 +369,10 @@ def test_errors_name_what_was_given():
         for kind, call, told in (
             (TypeError, lambda: chtab.Network("roads.gr"), 'Network.open("roads.gr")'), (TypeError, lambda: of_minutes(bothways=True), "it has both_ways"),
             (TypeError, lambda: of_minutes(worker=2), "it has workers"), (TypeError, lambda: chtab.Network.from_networkx(None, weights="length"), "it has weight"),
-            (TypeError, lambda: network.table(["inn"], ["mill"], "3"), "within is a number, not '3'"),
-            (TypeError, lambda: network.table(["inn"], ["mill"], True), "within is a number"), (TypeError, lambda: network.isochrones((9.5, 47.1), [3]), "as `snap` gives"),
-            (TypeError, lambda: network.near(None, ["inn"], count=1.5), "count is a whole number"), (ValueError, lambda: network.table(["inn"], ["mill"], -1), "within is -1"),
-            (ValueError, lambda: network.table(["inn"], ["mill"], float("nan")), "within is nan"), (ValueError, lambda: network.distances(("inn", "mill")), "one pair is [(1, 3)]"),
+            (TypeError, lambda: network.table(["inn"], ["mill"], within="3"), "within is a number, not '3'"),
+            (TypeError, lambda: network.table(["inn"], ["mill"], within=True), "within is a number"), (TypeError, lambda: network.isochrones((9.5, 47.1), [3]), "as `snap` gives"),
+            (TypeError, lambda: network.near(None, ["inn"], count=1.5), "count is a whole number"), (ValueError, lambda: network.table(["inn"], ["mill"], within=-1), "within is -1"),
+            (ValueError, lambda: network.table(["inn"], ["mill"], within=float("nan")), "within is nan"), (ValueError, lambda: network.distances(("inn", "mill")), "one pair is [(1, 3)]"),
             (TypeError, lambda: network.near(None, ["inn"], progress="yes"), "progress is True, False or a call"),
             (TypeError, lambda: chtab.Network.open("a.gr", colour=3), "open has no argument 'colour'"),
             (ValueError, lambda: of_minutes(timeout=-1), "timeout is -1"), (TypeError, lambda: of_minutes(timeout="5"), "timeout is a number of seconds"),

@@ -201,14 +201,14 @@ def test_what_is_no_place_is_refused():
     """NaN, degrees out of range, places that are too far, and two spots where reach begins at one."""
     nan, north = float("nan"), [47.1410]
     with chtab.Network.open(f"{COUNTRY}.gr", program=PROGRAM) as network:
-        for call in network.nearest, network.snap:
+        for call in network.nearest_nodes, network.snap:
             raises(ValueError, call, [9.5, nan], [47.1, 47.1], told="longitudes[1]: nan is not from -180 to 180 degrees")
             raises(ValueError, call, [9.5], [nan], told="latitudes[0]: nan is not from -90 to 90 degrees")
             raises(ValueError, call, [9.5], [91], told="latitudes[0]: 91 is not")
             raises(ValueError, call, [181], [47], told="longitudes[0]: 181 is not")
             raises(ValueError, call, [9.5, 9.5], [47], told="longitudes has 2 rows and latitudes has 1")
-        assert network.nearest(north, [9.5209], None)[1][0] > 5_000_000
-        fault = raises(chtab.TooFar, network.nearest, [9.5209, *north], [47.1410, 9.5209], 1_000, told="is 5,467 km from the nearest node")
+        assert network.nearest_nodes(north, [9.5209], None)[1][0] > 5_000_000
+        fault = raises(chtab.TooFar, network.nearest_nodes, [9.5209, *north], [47.1410, 9.5209], 1_000, told="is 5,467 km from the nearest node")
         assert list(fault.places) == [1] and fault.places[1] > 5_000_000
         fault = raises(chtab.TooFar, network.snap, [*north, 9.5209, *north], [9.5209, 47.1410, 9.5209], told="from the nearest road")
         assert list(fault.places) == [0, 2]

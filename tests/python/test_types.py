@@ -22,9 +22,9 @@ from chtab.typing import Integers
 with chtab.Network.open(Path("roads.gr"), saved="roads.ch", timeout=5.0) as network:
     weights: Integers = network.distances([(1, 3), (3, 1)])
     weights = network.table(["a", "b"], numpy.array([1, 2]), within=7.5)
-    nodes, metres = network.nearest([9.5], (47.1,))
-    places: Integers = network.nearest_of(None, nodes, count=2, direction="from").places
-    sums = network.sum_within({1: 2.5}, [600_000, 900_000], decay=lambda weights: numpy.exp(-weights / 3)).sum()
+    nodes, metres = network.nearest_nodes([9.5], (47.1,))
+    places: Integers = network.nearest_targets(None, nodes, count=2, direction="from").places
+    sums = network.accessibility({1: 2.5}, [600_000, 900_000], decay=lambda weights: numpy.exp(-weights / 3)).sum()
     spots: chtab.Spots = network.snap(9.5, 47.1)
     polygons = network.isochrones(spots[0], [300_000])["features"]
     with network.changed({"way/5": 3}, closed=spots, added=[(1, 2, 3)]) as other, other.changed(closed=[0, (1, 2), *spots]) as again:
@@ -38,7 +38,7 @@ WRONG = (
     ("network.table([1], [2], within='3')", 'Argument "within" to "table"'), ("network.table([1])", 'Missing positional argument "targets"'),
     ("network.table([1], [2], whithin=3)", 'Unexpected keyword argument "whithin"'), ("network.near(None, [1], direction='back')", 'Argument "direction" to "near"'),
     ("network.reach(5)", 'Argument 1 to "reach"'), ("network.snap(9.5, None)", 'Argument 2 to "snap"'), ("network.isochrones(5, [300])", 'Argument 1 to "isochrones"'),
-    ("network.nearest([9.5], [47.1])[2]", "Tuple index out of range"), ("network.routes([(1, 3)]).to_geojsn()", 'has no attribute "to_geojsn"'),
+    ("network.nearest_nodes([9.5], [47.1])[2]", "Tuple index out of range"), ("network.routes([(1, 3)]).to_geojsn()", 'has no attribute "to_geojsn"'),
     ("chtab.Network.open('a', progam='b')", 'Unexpected keyword argument "progam"'), ("chtab.Network.open('a', workers='2')", 'Argument "workers" to "open"'),
     ("chtab.Network.open(3)", 'Argument 1 to "open"'), ("chtab.Network.from_arrays([1], [2], [3], both_ways=True).nodes.upper()", '"int" has no attribute "upper"'),
     ("chtab.files.read_graph('a.gr').weigths", 'has no attribute "weigths"'), ("chtab.DataFault('a', row='b')", 'Argument "row" to "DataFault"'),

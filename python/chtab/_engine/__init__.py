@@ -1,4 +1,5 @@
-"""What builds the hierarchy of a network, the program, and what answers, the library for C in this process.
+"""What builds the hierarchy of a network, the program, and what answers, the library for C in this
+process.
 
 | module | what it holds |
 |---|---|
@@ -10,7 +11,6 @@
 | `library` | the calls of the library, by ctypes |
 | `interruptible` | long calls of the library, which Ctrl-C breaks off |
 | `walks` | routes of many queries in flat arrays |
-| `tables` | tables in files, in blocks |
 | `cluster` | questions by the workers of a cluster of Dask |
 | `folders` | temporary folders, which are removed with what keeps them |
 | `deadlines` | until when an answer has to be there |

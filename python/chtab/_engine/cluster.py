@@ -12,12 +12,13 @@ from collections.abc import Callable, Iterator
 from typing import TYPE_CHECKING, Any
 
 if TYPE_CHECKING:
-    from chtab._engine.in_process import InProcess
     from chtab._engine.opening import Setting
 
 # The clients whose workers have this package, and what a worker keeps.
 KNOWN: weakref.WeakSet[Any] = weakref.WeakSet()
 KEPT, LOCK = "chtab_engines", threading.Lock()
+# The packages whose functions workers call.
+PACKAGES = "chtab", "chtab_tools"
 
 
 def threads_of(client: Any) -> int:
@@ -26,22 +27,21 @@ def threads_of(client: Any) -> int:
 
 
 def send_package(client: Any) -> None:
-    """Sends the code of this package to all workers, also to those that join later."""
+    """Sends the code of the package and of its commands to all workers, also to later ones."""
     if client in KNOWN:
         return
-    folder = pathlib.Path(__file__).parent.parent
+    root = pathlib.Path(__file__).parent.parent.parent
     with tempfile.TemporaryDirectory() as kept:
         path = os.path.join(kept, "chtab.zip")
         with zipfile.ZipFile(path, "w") as archive:
-            for source in folder.rglob("*.py"):
-                archive.write(source, f"chtab/{source.relative_to(folder)}")
+            for source in (file for name in PACKAGES for file in (root / name).rglob("*.py")):
+                archive.write(source, source.relative_to(root))
         client.upload_file(path)
     KNOWN.add(client)
 
 
 class Tasks:
-    """Tasks of a cluster, and their values as they come. What is still under way is ended with
-    them."""
+    """Tasks of a cluster, and their values as they come; those under way end with it."""
 
     def __init__(self, client: Any) -> None:
         import distributed
@@ -56,8 +56,7 @@ class Tasks:
         self.completed.add(future)
 
     def __iter__(self) -> Iterator[tuple[Any, Any]]:
-        """Yields what was started with the value of its call. A call that starts meanwhile
-        follows."""
+        """Yields each task with its value, those that are begun meanwhile too."""
         for future in self.completed:
             yield self.begun.pop(future), future.result()
 

@@ -39,8 +39,7 @@ CALL = OfThread()
 
 
 def current(seconds: float | None) -> Deadline:
-    """The deadline of the call that this thread is making; outside of a call, a new one from
-    now."""
+    """The deadline of the call that this thread is making; outside of one, a new one from now."""
     return CALL.deadline or Deadline(seconds)
 
 

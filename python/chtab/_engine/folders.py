@@ -1,4 +1,5 @@
-"""Temporary folders that are removed with the object that keeps them, and also when a signal ends the process."""
+"""Temporary folders that are removed with the object that keeps them, and also when a signal ends
+the process."""
 from __future__ import annotations
 
 import contextlib
@@ -11,24 +12,17 @@ from typing import IO, cast
 
 from chtab._engine import forks
 
-# Reads a line and ends. If the input ends without a line, because the process that should write it has died, this removes the folder first. Signals
-# that end the process may reach the shell as well, such as those to all processes of a service, so that it ignores them.
+# Reads a line and ends. If the input ends without a line, because the process that should write it
+# has died, this removes the folder first. Signals that end the process may reach the shell as well,
+# such as those to all processes of a service, so that it ignores them.
 SCRIPT = 'trap "" HUP INT TERM; read -r line || rm -rf -- "$1"'
 
 
 class Folder:
-    """A folder that is removed by `remove`, when this object is no longer used, at the end of the interpreter, and when the process is killed. A
-    forked process leaves it alone.
+    """A folder that is removed by `remove`, with this object, and even if the process is killed."""
 
-    For the last case a shell outlives the process. It has a process group of its own, and waits for the end of a pipe, which comes when all processes
-    that could write to the pipe are gone. Forked processes therefore close their end of it.
-
-    Parameters
-    ----------
-    path : str, optional
-        Where to make it; by default among the system's temporary folders.
-    """
-
+    # If it is killed, a shell of a process group of its own outlives it, and waits for the end of a
+    # pipe: until all processes that could write to it are gone. Forked ones close their end of it.
     def __init__(self, path: str | None = None) -> None:
         if path is not None:
             os.mkdir(path)
@@ -56,10 +50,12 @@ class Folder:
 
 
 def watched(path: str) -> subprocess.Popen[bytes] | None:
-    """Starts the shell that removes a folder when this process is gone; None if none can be started."""
+    """Starts the shell that removes a folder when this process is gone; None if it can't start."""
     words = ["/bin/sh", "-c", SCRIPT, "chtab", path]
     with contextlib.suppress(OSError):
-        return subprocess.Popen(words, stdin=subprocess.PIPE, stdout=subprocess.DEVNULL, stderr=subprocess.DEVNULL, start_new_session=True)
+        return subprocess.Popen(
+            words, stdin=subprocess.PIPE, stdout=subprocess.DEVNULL, stderr=subprocess.DEVNULL,
+            start_new_session=True)
     return None
 
 

@@ -1,8 +1,9 @@
 """Forked processes: what a process has to give up after it was forked.
 
-A forked process has copies of all that its parent holds. Among these are the pipes of the parent's runs, and locks that are held by threads of the
-parent, which don't exist in the forked process and would never release them. An object that keeps such things calls `follow`, and its
-`leave_parent` is then called in each forked process.
+A forked process has copies of all that its parent holds. Among these are the pipes of the parent's
+runs, and locks that are held by threads of the parent, which don't exist in the forked process and
+would never release them. An object that keeps such things calls `follow`, and its `leave_parent` is
+then called in each forked process.
 """
 from __future__ import annotations
 
@@ -22,13 +23,14 @@ class Followed(Protocol):
         """Gives up what belongs to the parent."""
 
 
-# Held while a run is started. No process is forked meanwhile, because it would inherit pipes that nothing in it knows of.
+# Held while a run is started. No process is forked meanwhile, because it would inherit pipes that
+# nothing in it knows of.
 STEADY = threading.RLock()
 FOLLOWED: weakref.WeakSet[Followed] = weakref.WeakSet()
 
 
 def follow(thing: Followed) -> None:
-    """Calls `thing.leave_parent()` in each process that is forked from this one, as long as the object exists."""
+    """Calls `thing.leave_parent()` in each forked process, as long as the object exists."""
     FOLLOWED.add(thing)
 
 
@@ -39,13 +41,11 @@ def leave_parents() -> None:
 
 
 class computed_once(Generic[Value]):
-    """A property that is computed when it is first asked for, and kept.
+    """A property that is computed when it is first asked for, without a lock, and then kept."""
 
-    Before Python 3.12 `functools.cached_property` holds one lock for all objects of a class while it
-    computes. A process that is forked meanwhile would wait for that lock for ever. This property has
-    none: two threads that ask first at once both compute, and get the same object.
-    """
-
+    # Before Python 3.12 `functools.cached_property` holds one lock for all objects of a class while
+    # it computes, for which a process that is forked meanwhile would wait for ever. Without one,
+    # two threads that ask first at once both compute, and get the same object.
     def __init__(self, compute: Callable[[Any], Value]) -> None:
         self.compute, self.__doc__ = compute, compute.__doc__
 
@@ -60,4 +60,5 @@ class computed_once(Generic[Value]):
         return kept
 
 
-os.register_at_fork(before=STEADY.acquire, after_in_parent=STEADY.release, after_in_child=leave_parents)
+os.register_at_fork(
+    before=STEADY.acquire, after_in_parent=STEADY.release, after_in_child=leave_parents)

@@ -30,8 +30,8 @@ if TYPE_CHECKING:
 PAIRS, ROUTES, SIDE, SHORT = 1 << 13, 1 << 11, 1 << 12, 1 << 10
 # How many cells of a table are worth a further thread, which searches from each target once more.
 WORTH = 1 << 20
-# The most pairs whose flows one call gives. Each call takes steps for all legs of the network, which
-# that many pairs hide.
+# The most pairs whose flows one call gives. Each call takes steps for all legs of the network,
+# which that many pairs hide.
 FLOWS = 1 << 17
 # How many nodes of routes have room at first.
 ROOM = 1 << 16
@@ -53,27 +53,28 @@ class OfThread(threading.local):
     handle: library.Handle | None = None
 
 
+class Flows:
+    """The sum of flows that threads add up, and how many pairs have no walk."""
+
+    def __init__(self, lines: int) -> None:
+        self.flows, self.missed = numpy.zeros(lines, numpy.uint64), 0
+        self.lock = threading.Lock()
+
+    def add(self, found: tuple[int, NDArray[numpy.uint64]]) -> None:
+        with self.lock:
+            self.missed += found[0]
+            numpy.add(self.flows, found[1], out=self.flows)
+
+
 class InProcess:
-    """Answers questions about nodes, which count from 1, of any number of threads and forked
-    processes.
+    """Answers questions about nodes, which count from 1, of threads and forked processes.
 
-    The first question of a thread makes a handle for it. All handles share one network in memory,
-    which the first handle opens. That handle belongs to the first thread that asks, and after the
-    end of this thread to the next new one. Large questions are answered by up to `setting.workers`
-    threads.
-
-    The first question of a forked process opens the network anew, and leaves the handles of its
-    parent alone.
-
-    Parameters
-    ----------
-    setting : opening.Setting
-        The files, and how they are answered from.
-    arcs : sequence of array of int, shape (m,), optional
-        The tails, heads and weights of the arcs that the graph's file has, in its order. The library
-        then takes these, and does not read that file.
+    The first question of a thread makes a handle for it, on the one network in memory. The first
+    handle opens it, and belongs to the first thread that asks, or after its end to the next new
+    one. A forked process opens the network anew, and leaves the handles of its parent alone.
     """
 
+    # Tails, heads and weights of arcs go to the library in place of the graph's file.
     def __init__(self, setting: Setting, arcs: Sequence[Integers] | None = None) -> None:
         for path in setting.files():
             open(path, "rb").close()
@@ -136,20 +137,19 @@ class InProcess:
         return handle
 
     def built(self) -> bytes | None:
-        """The hierarchy of a network that has none saved, where several workers of the program
-        build it; None where the library builds it, which starts no threads."""
+        """The hierarchy that several workers of the program build; None if the library does."""
         setting = self.setting
         if setting.workers == 1:
             return None
         with tempfile.TemporaryDirectory(prefix="chtab-") as folder:
-            path, words = os.path.join(folder, "built.ch"), ["--quick", "--workers", str(setting.workers)]
+            path, words = (
+                os.path.join(folder, "built.ch"), ["--quick", "--workers", str(setting.workers)])
             running.save(setting.program, setting.graph, path, words, None)
             return contents_of(path)
 
     def opened_like(self, graph: bytes, fresh: int) -> library.Handle:
-        """A handle in the network of another graph with as many nodes, whose hierarchy is built in
-        the order of this one's: only the last `fresh` per cent of the nodes are ordered afresh.
-        This network goes on answering meanwhile."""
+        """A handle in the network of another graph, built in the order of this one's, of which the
+        last `fresh` per cent of the nodes are ordered afresh. This one goes on answering."""
         giver, handle = self.first_handle().share(), library.Handle(self.calls)
         # The giver is closed when the call ends, also where the wait for it is broken off.
         interruptible(LONG, handle.open_like, graph, giver, fresh)
@@ -179,8 +179,7 @@ class InProcess:
         return self.another(first)
 
     def another(self, first: library.Handle) -> library.Handle:
-        """Makes a further handle. This waits for a call that uses the first one, and holds no lock
-        meanwhile."""
+        """Makes a further handle, without a lock while it waits for a call of the first one."""
         made = first.share()
         with self.lock:
             if self.is_closed:
@@ -190,8 +189,7 @@ class InProcess:
 
     @contextlib.contextmanager
     def lent_handle(self) -> Iterator[library.Handle]:
-        """Lends a handle to one question of a thread that is not the caller's, or on near rows, and
-        frees its places afterwards."""
+        """Lends a handle to a question of another thread or on near rows, and frees its places."""
         handle = self.spare_handle()
         # A process that is forked meanwhile has a list of its own, and this handle stays with its
         # parent.
@@ -215,15 +213,8 @@ class InProcess:
         """1 if the network is open in this process, and 0 otherwise."""
         return int(self.first is not None)
 
-    @property
-    def runs(self) -> list[library.Handle]:
-        """The handles of this process; none before the network is opened."""
-        with self.lock:
-            return list(self.handles)
-
     def close(self) -> None:
-        """Closes all handles, each once the call that uses it has ended. A question of another
-        thread fails if it needs further calls."""
+        """Closes all handles, each once its call has ended; questions with more calls fail."""
         self.is_closed = True
         if self.owner != os.getpid():
             self.leave_parent()
@@ -241,17 +232,10 @@ class InProcess:
     # Questions.
 
     def in_parts(
-        self,
-        count: int,
-        most: int,
-        call: Callable[[library.Handle, slice], Any],
-        name: str,
-        things: str,
-        progress: Asked = None,
-        searches: int = 1,
+        self, count: int, most: int, call: Callable[[library.Handle, slice], Any], name: str,
+        things: str, progress: Asked = None, searches: int = 1,
     ) -> None:
-        """Calls for all parts of `count` items, each of so many searches and at most `most` items.
-        `name` and `things` are what progress says is done."""
+        """Calls for parts of `count` items, at most `most`, which `name` and `things` report."""
         # Loading is not counted, and comes before the time is.
         own, caller, timeout = self.handle(), threading.current_thread(), self.setting.timeout
         scale = 1 if self.nodes >= SMALL else SEARCHES
@@ -278,14 +262,12 @@ class InProcess:
         return sources, targets
 
     def few_distances(self, sources: Sequence[int], targets: Sequence[int]) -> list[int] | None:
-        """The distances of at most `library.FEW` pairs of nodes from 1 to `nodes`, given as two
-        lists; None if this needs arrays."""
+        """The distances of up to `library.FEW` pairs of nodes in lists; None if it needs arrays."""
         own = self.handle()
         return own.few_distances([node - 1 for node in sources], [node - 1 for node in targets])
 
     def distances(self, pairs: Integers, progress: Asked = None) -> Integers:
-        """The distances of pairs of nodes, an array (n, 2): int64 (n,), -1 where there is no
-        walk."""
+        """The distances of pairs of nodes (n, 2), -1 where there is no walk."""
         sources, targets = self.columns(pairs)
         found = numpy.empty(len(sources), numpy.int64)
 
@@ -296,14 +278,10 @@ class InProcess:
         return found
 
     def table(
-        self,
-        sources: Integers,
-        targets: Integers,
-        within: int | None = None,
+        self, sources: Integers, targets: Integers, within: int | None = None,
         progress: Asked = None,
     ) -> Integers:
-        """The distances from each node of one column to each of another, int64 (k, l), -1 where
-        there is no walk, or none of at most `within`."""
+        """The distances from each source to each target (k, l), -1 for no walk within the limit."""
         rows, columns = (library.nodes_of(nodes, self.nodes) for nodes in (sources, targets))
         found = numpy.empty((len(rows), len(columns)), numpy.int64)
         limit = library.NO_LIMIT if within is None else within
@@ -315,10 +293,11 @@ class InProcess:
         return found
 
     def in_blocks(
-        self, rows: int, columns: int, call: Callable[[library.Handle, tuple[slice, slice]], None], name: str,
-        progress: Asked = None,
+        self, rows: int, columns: int, call: Callable[[library.Handle, tuple[slice, slice]], None],
+        name: str, progress: Asked = None,
     ) -> None:
-        """Calls for blocks of a table, which are slices of rows and of columns, until all cells are done."""
+        """Calls for blocks of a table, which are slices of rows and of columns, until all cells are
+        done."""
         side = SIDE if self.setting.timeout is None else SHORT
         height, width = self.height_of(rows, columns, side), max(1, min(columns, side))
         across = -(-columns // width)
@@ -347,29 +326,25 @@ class InProcess:
                 weights, ends, _, lines = handle.routes_with_lines(*some, self.room)
                 if not len(weights):
                     self.make_room()
-                made.append(
-                    (start, (weights, numpy.diff(ends, prepend=0), lines[lines != library.NO_LINE]))
-                )
+                arcs = lines[lines != library.NO_LINE]
+                made.append((start, (weights, numpy.diff(ends, prepend=0), arcs)))
                 start += len(weights)
 
         self.in_parts(len(sources), ROUTES, ask, "routes", "pairs", progress)
-        nothing: Any = (0, tuple(numpy.zeros((3, 0), numpy.int64)))
-        columns: Any = zip(
-            *(each for _, each in sorted([nothing, *made], key=lambda each: each[0]))
-        )
+        nothing: Any = numpy.zeros((3, 0), numpy.int64)
+        in_order = [each for _, each in sorted(made, key=lambda each: each[0])]
+        columns: Any = zip(nothing, *in_order)
         weights, counts, lines = (numpy.concatenate(column) for column in columns)
         return Paths(weights, numpy.maximum(counts - 1, 0), lines.astype(numpy.int64))
 
     def sums(
         self, pairs: Integers, values: NDArray[numpy.uint64],
     ) -> tuple[Integers, NDArray[numpy.uint64]]:
-        """The weights of the routes of pairs, -1 where there is no walk, and the sums of the values
-        of their arcs, 0 where there is no walk. `values` has one for each arc of the graph. Raises
-        a `ValueError` if a sum is 2^64 or more."""
+        """The weights of the routes of pairs, -1 for no walk, and the sums of the values of their
+        arcs, 0 for no walk. A sum of 2^64 is refused."""
         sources, targets = self.columns(pairs)
-        weights, sums = numpy.empty(len(sources), numpy.int64), numpy.empty(
-            len(sources), numpy.uint64
-        )
+        weights, sums = (
+            numpy.empty(len(sources), numpy.int64), numpy.empty(len(sources), numpy.uint64))
 
         def ask(handle: library.Handle, part: slice) -> None:
             weights[part], sums[part] = handle.route_sums(sources[part], targets[part], values)
@@ -380,36 +355,30 @@ class InProcess:
     def flows(
         self, pairs: Integers, demands: NDArray[numpy.uint64], lines: int, progress: Asked = None,
     ) -> tuple[int, NDArray[numpy.uint64]]:
-        """How many pairs have no walk, and for each of the `lines` of the graph the sum of the demands of
-        the pairs whose routes take it. The sum of all demands is below 2^63."""
-        sources, targets = self.columns(pairs)
-        flows, missed, lock = numpy.zeros(lines, numpy.uint64), [0], threading.Lock()
+        """How many pairs have no walk, and for each of the `lines` of the graph the sum of the
+        demands, below 2^63 in all, of the pairs whose routes take it."""
+        (sources, targets), total = self.columns(pairs), Flows(lines)
 
         def ask(handle: library.Handle, part: slice) -> None:
-            without, more = handle.flows(sources[part], targets[part], demands[part], lines)
-            with lock:
-                missed[0] += without
-                numpy.add(flows, more, out=flows)
+            total.add(handle.flows(sources[part], targets[part], demands[part], lines))
 
         self.in_parts(len(sources), FLOWS, ask, "flows", "pairs", progress)
-        return missed[0], flows
+        return total.missed, total.flows
 
     def flows_table(
-        self, sources: Integers, targets: Integers, demands: NDArray[numpy.uint64], lines: int, progress: Asked = None,
+        self, sources: Integers, targets: Integers, demands: NDArray[numpy.uint64], lines: int,
+        progress: Asked = None,
     ) -> tuple[int, NDArray[numpy.uint64]]:
         """The same of each source with each target, by demands (k, l)."""
         rows, columns = (library.nodes_of(nodes, self.nodes) for nodes in (sources, targets))
-        flows, missed, lock = numpy.zeros(lines, numpy.uint64), [0], threading.Lock()
+        total = Flows(lines)
 
         def ask(handle: library.Handle, some: tuple[slice, slice]) -> None:
             cells = numpy.ascontiguousarray(demands[some]).reshape(-1)
-            without, more = handle.flows_table(rows[some[0]], columns[some[1]], cells, lines)
-            with lock:
-                missed[0] += without
-                numpy.add(flows, more, out=flows)
+            total.add(handle.flows_table(rows[some[0]], columns[some[1]], cells, lines))
 
         self.in_blocks(len(rows), len(columns), ask, "flows", progress)
-        return missed[0], flows
+        return total.missed, total.flows
 
     def make_room(self) -> None:
         """Makes twice as much room for the nodes of routes."""

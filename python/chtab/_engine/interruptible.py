@@ -1,7 +1,8 @@
 """Long calls of the library for C, which Ctrl-C can interrupt.
 
-Python handles a signal between two of its own instructions, and a call of C is a single one. The main thread, which gets the signals, therefore
-lets another thread make a long call, and waits for it.
+Python handles a signal between two of its own instructions, and a call of C is a single one. The
+main thread, which gets the signals, therefore lets another thread make a long call, and waits for
+it.
 """
 from __future__ import annotations
 
@@ -11,9 +12,11 @@ import weakref
 from collections.abc import Callable
 from typing import Any, TypeVar
 
-# From this many searches on, a call gets a thread. On a country of 24 million nodes that many take less than half a second.
+# From this many searches on, a call gets a thread. On a country of 24 million nodes that many take
+# less than half a second.
 LONG = 1 << 8
-# Seconds between two checks whether the thread is still there, because it may have had no memory to start, or to report its end.
+# Seconds between two checks whether the thread is still there, because it may have had no memory to
+# start, or to report its end.
 PATIENCE = 1.0
 
 
@@ -21,7 +24,7 @@ Value = TypeVar("Value")
 
 
 class Course:
-    """A call under way: its result, and a lock that is held until it ends. All of it is made before the call, because memory may be short later."""
+    """A call under way: its result, and a lock until it ends, made while there is memory."""
 
     def __init__(self) -> None:
         self.value: Any = None
@@ -47,11 +50,8 @@ class Alive:
 
 
 def interruptible(searches: int, call: Callable[..., Value], *words: Any) -> Value:
-    """Returns the value of a call that makes that many searches. If a signal breaks off the wait, the call ends by itself later, and its value is
-    dropped.
-
-    This doesn't use `threading.Thread`, because its `start` waits for ever if there is no memory.
-    """
+    """The value of a call of so many searches; if a signal breaks off the wait, it is dropped."""
+    # `threading.Thread` isn't used, because its `start` waits for ever if there is no memory.
     if searches < LONG or threading.current_thread() is not threading.main_thread():
         return call(*words)
     course, alive = Course(), Alive()

@@ -1,7 +1,8 @@
 """The library for C in this process, by ctypes: `include/chtab.h` describes its calls.
 
-C trusts its caller. Everything is therefore checked here before a call: each array is one of numpy, with the right type of numbers, contiguous,
-aligned for these numbers, and as long as the call assumes; outputs are writable; and nodes are numbers of 32 bits.
+C trusts its caller. Everything is therefore checked here before a call: each array is one of numpy,
+with the right type of numbers, contiguous, aligned for these numbers, and as long as the call
+assumes; outputs are writable; and nodes are numbers of 32 bits.
 """
 from __future__ import annotations
 
@@ -39,8 +40,6 @@ KINDS = (
     "size too large", "too many lines", "too few lines", "order", "pair", "bound", "base", "middle", "arc", "lower",
 )
 GONE = "the network is closed"
-# How many nodes of a route have room at first.
-ROOM = 1_024
 # Up to this many pairs are asked for without arrays.
 FEW = 16
 
@@ -48,6 +47,7 @@ FEW = 16
 # Nodes as the library counts them, from 0 on; and unsigned numbers.
 Nodes: TypeAlias = "NDArray[numpy.uint32]"
 Unsigned: TypeAlias = "NDArray[numpy.uint64]"
+NODE, NUMBER = numpy.uint32, numpy.uint64
 
 
 class Block(ctypes.Structure):
@@ -98,14 +98,12 @@ CALLS = {
 
 
 def beside(program: str) -> str | None:
-    """The library beside a program; None if there is none.
-
-    It is in the folder of the program (in a wheel); where `packaging/library` puts it in a checkout, unless sources of the crates are newer; or where
-    `./install` puts it, in the folder `lib` whose folder `chtab` has the program.
-    """
+    """The library beside a program, of a wheel, of `packaging/library` unless sources are newer, or
+    where `./install` puts it; None if there is none."""
     folder = os.path.dirname(os.path.realpath(program))
     places = [folder] if os.path.basename(folder) != "chtab" else [folder, os.path.dirname(folder)]
-    found = [path for path in (os.path.join(place, NAME) for place in places) if os.path.isfile(path)]
+    found = [
+        path for path in (os.path.join(place, NAME) for place in places) if os.path.isfile(path)]
     # The program is that of a checkout itself, or what it builds.
     own = os.path.join("crates", "chtab", "out")
     checkout = folder.removesuffix(os.sep + own) if folder.endswith(own) else folder
@@ -117,7 +115,8 @@ def is_up_to_date(made: str, checkout: str) -> bool:
     """Whether the library of a checkout exists, and no source of its crates is newer."""
     if not os.path.isfile(made):
         return False
-    files = glob.iglob(os.path.join(glob.escape(checkout), "crates", "*", "src", "**", "*.rt"), recursive=True)
+    files = glob.iglob(
+        os.path.join(glob.escape(checkout), "crates", "*", "src", "**", "*.rt"), recursive=True)
     # Crates of tests are in no library.
     sources = (path for path in files if f"_checks{os.sep}" not in path.removeprefix(checkout))
     return max(map(os.path.getmtime, sources), default=0) <= os.path.getmtime(made)
@@ -125,7 +124,8 @@ def is_up_to_date(made: str, checkout: str) -> bool:
 
 @functools.cache
 def loaded(path: str) -> ctypes.CDLL:
-    """The calls of the library at a path. Raises a `ChtabError` if it can't be loaded, or has another version."""
+    """The calls of the library at a path. Raises a `ChtabError` if it can't be loaded, or has
+    another version."""
     try:
         with forks.STEADY:
             calls = ctypes.CDLL(path)
@@ -137,15 +137,20 @@ def loaded(path: str) -> ctypes.CDLL:
     except (OSError, AttributeError) as fault:
         raise ChtabError(f"{path} is not chtab's library for C: {fault}") from None
     if version != VERSION:
-        raise ChtabError(f"{path} is of another version than this package: {version}, not {VERSION}")
+        raise ChtabError(
+            f"{path} is of another version than this package: {version}, not {VERSION}")
     return calls
 
 
 def address(array: NDArray[Any], kind: DTypeLike, is_written: bool = False) -> int:
     """The address of the numbers of an array. An array that C would misread is refused."""
-    if type(array) is not numpy.ndarray or array.dtype != kind or array.ndim != 1 or not (array.flags.c_contiguous and array.flags.aligned):
-        what = f"{array.dtype} of shape {array.shape}" if isinstance(array, numpy.ndarray) else type(array).__name__
-        raise TypeError(f"the library takes a column of {numpy.dtype(kind)} in one piece, not {what}")
+    is_column = type(array) is numpy.ndarray and array.dtype == kind and array.ndim == 1
+    if not is_column or not (array.flags.c_contiguous and array.flags.aligned):
+        what = type(array).__name__
+        if isinstance(array, numpy.ndarray):
+            what = f"{array.dtype} of shape {array.shape}"
+        text = f"the library takes a column of {numpy.dtype(kind)} in one piece, not {what}"
+        raise TypeError(text)
     if is_written and not array.flags.writeable:
         raise TypeError("the library writes to an array that may be written to")
     found = array.ctypes.data
@@ -154,8 +159,19 @@ def address(array: NDArray[Any], kind: DTypeLike, is_written: bool = False) -> i
     return found
 
 
+def column(array: NDArray[Any], kind: DTypeLike) -> tuple[int, int]:
+    """The address and the length of an array that a call reads."""
+    return address(array, kind), len(array)
+
+
+def written(array: NDArray[Any], kind: DTypeLike) -> tuple[int, int]:
+    """The same of an array that a call writes to."""
+    return address(array, kind, True), len(array)
+
+
 def nodes_of(numbers: ArrayLike, count: int) -> Nodes:
-    """The nodes of numbers from 1 to `count`, as the library counts them from 0 on: uint32, contiguous. Any other number is refused."""
+    """The nodes of numbers from 1 to `count`, as the library counts them from 0 on: uint32,
+    contiguous. Any other number is refused."""
     numbers = numpy.asarray(numbers)
     if numbers.dtype != numpy.int64:
         if numbers.size and numbers.dtype.kind not in "iu":
@@ -171,8 +187,7 @@ def nodes_of(numbers: ArrayLike, count: int) -> Nodes:
 def columns_of(
     count: int, tails: ArrayLike, heads: ArrayLike, weights: ArrayLike,
 ) -> tuple[Nodes, Nodes, Unsigned]:
-    """The columns of arcs as the library takes them: nodes from 1 to `count` as it counts them, and
-    weights of uint64."""
+    """The columns of arcs as the library takes them: nodes from 0 on, and weights of uint64."""
     unsigned = numpy.asarray(weights).astype(numpy.uint64, order="C")
     return nodes_of(tails, count), nodes_of(heads, count), unsigned
 
@@ -184,36 +199,35 @@ def close(call: Callable[[Any], int], block: Block, owner: int) -> None:
 
 
 class Handle:
-    """A network in this process, with scratch space for one question at a time; calls of several threads wait for one another.
-
-    It is closed by `close`, and when it is no longer used. It can't be copied or pickled.
-    """
+    """A network in this process, with scratch space for one question at a time, for which threads
+    wait. It is closed by `close`, and when it is no longer used."""
 
     def __init__(self, calls: ctypes.CDLL) -> None:
         self.calls, self.block, self.lock = calls, Block(), threading.RLock()
-        self.at, self.room = ctypes.byref(self.block), ROOM
+        self.at = ctypes.byref(self.block)
         # Scratch space for few distances, for one question at a time.
-        self.sources, self.targets, self.weights = (ctypes.c_uint32 * FEW)(), (ctypes.c_uint32 * FEW)(), (ctypes.c_int64 * FEW)()
-        self.rooms = ctypes.addressof(self.sources), ctypes.addressof(self.targets), ctypes.addressof(self.weights)
+        self.sources, self.targets = (ctypes.c_uint32 * FEW)(), (ctypes.c_uint32 * FEW)()
+        self.weights = (ctypes.c_int64 * FEW)()
+        rooms: tuple[Any, ...] = (self.sources, self.targets, self.weights)
+        self.rooms = [ctypes.addressof(room) for room in rooms]
         self.is_asked = False
-        # From here on the handle is closed, whatever breaks this off, but not at the end of the interpreter, when threads may still be in a call.
+        # From here on the handle is closed, whatever breaks this off, but not at the end of the
+        # interpreter, when threads may still be in a call.
         weakref.finalize(self, close, calls.chtab_close, self.block, os.getpid()).atexit = False
 
     def __reduce__(self) -> NoReturn:
         raise TypeError("a handle is neither copied nor pickled")
 
     def open(self, graph: bytes, saved: bytes | None = None) -> None:
-        """Opens the network of a graph and its saved hierarchy, given as the bytes of both files. Without `saved` the library builds a hierarchy,
-        in an order that takes little time to find.
-
-        Raises a `ProgramFault` if a file is refused.
-        """
+        """Opens the network of a graph and its saved hierarchy, the bytes of both files. Without
+        `saved` the library builds one. A file that is refused is a `ProgramFault`."""
         if type(graph) is not bytes or saved is not None and type(saved) is not bytes:
             raise TypeError("files are bytes")
         given, fault = given_bytes(saved), Fault()
         with self.lock:
             if saved is None:
-                status = self.calls.chtab_open_quick(self.at, graph, len(graph), ctypes.byref(fault))
+                status = self.calls.chtab_open_quick(
+                    self.at, graph, len(graph), ctypes.byref(fault))
             else:
                 words = graph, len(graph), given, len(given), ctypes.byref(fault)
                 status = self.calls.chtab_open(self.at, *words)
@@ -222,23 +236,17 @@ class Handle:
     def open_arrays(
         self, nodes: int, tails: Nodes, heads: Nodes, weights: Unsigned, saved: bytes | None = None,
     ) -> None:
-        """Opens the network of a graph that is given as columns, and of its saved hierarchy, as
-        `open` takes it: arc k leads from `tails[k]` to `heads[k]`, nodes from 0 on, and weighs
-        `weights[k]`.
-
-        Raises a `ProgramFault` if the graph or the file is refused.
-        """
+        """Does the same for a graph in columns: arc k leads from `tails[k]` to `heads[k]`, nodes
+        from 0 on, and weighs `weights[k]`."""
         if saved is not None and type(saved) is not bytes:
             raise TypeError("files are bytes")
         are_long = len(tails) == len(heads) == len(weights)
         if type(nodes) is not int or not 0 <= nodes < 2**32 or not are_long:
             raise ValueError("a graph has a number of nodes, and columns of one length")
-        ends = address(tails, numpy.uint32), len(tails), address(heads, numpy.uint32), len(heads)
-        columns = *ends, address(weights, numpy.uint64), len(weights)
+        columns = column(tails, NODE), column(heads, NODE), column(weights, NUMBER)
         given, fault = given_bytes(saved), Fault()
-        words = *columns, given, len(given), ctypes.byref(fault)
-        with self.lock:
-            status = self.calls.chtab_open_arrays(self.at, nodes, *words)
+        words = nodes, *columns, given, len(given), ctypes.byref(fault)
+        status = self.ask(self.calls.chtab_open_arrays, *words)
         see_that_opened(status, fault, saved)
 
     def open_like(self, graph: bytes, other: Handle, fresh: int) -> None:
@@ -268,7 +276,8 @@ class Handle:
         return other
 
     def close(self) -> None:
-        """Closes the handle, once the call that is under way has ended. Further calls are refused."""
+        """Closes the handle, once the call that is under way has ended. Further calls are
+        refused."""
         with self.lock:
             self.calls.chtab_close(self.at)
 
@@ -280,7 +289,8 @@ class Handle:
         return count.value
 
     def save(self, room: int = 0) -> bytes:
-        """The hierarchy, the bytes that `chtab save` writes for it. They are made once if they fit into a room of so many bytes, and otherwise twice."""
+        """The hierarchy, the bytes that `chtab save` writes for it. They are made once if they fit
+        into a room of so many bytes, and otherwise twice."""
         size, text = ctypes.c_uint64(), numpy.empty(room, numpy.uint8)
         with self.lock:
             status = self.write_text(size, text)
@@ -291,20 +301,26 @@ class Handle:
         return text[:size.value].tobytes()
 
     def write_text(self, size: ctypes.c_uint64, text: NDArray[numpy.uint8]) -> int:
-        return self.calls.chtab_save(self.at, ctypes.byref(size), address(text, numpy.uint8, True), len(text))
+        return self.calls.chtab_save(
+            self.at, ctypes.byref(size), address(text, numpy.uint8, True), len(text))
+
+    def ask(self, call: Callable[..., int], *given: Any) -> int:
+        """Makes a call with numbers and columns, each an address and a length; its status."""
+        words = [word for each in given for word in (each if type(each) is tuple else (each,))]
+        with self.lock:
+            return call(self.at, *words)
 
     def distances(self, sources: Nodes, targets: Nodes) -> Integers:
-        """The distances from each source to the target beside it, columns of uint32, nodes from 0 on: int64, -1 where there is no walk."""
+        """The distances from sources to the targets beside them, nodes from 0 on; -1 for no
+        walk."""
         out = numpy.empty(len(sources), numpy.int64)
-        places = address(sources, numpy.uint32), address(targets, numpy.uint32), address(out, numpy.int64, True)
-        with self.lock:
-            status = self.calls.chtab_distances(self.at, places[0], len(sources), places[1], len(targets), places[2], len(out))
-        see_that_done(status)
+        places = column(sources, NODE), column(targets, NODE)
+        see_that_done(self.ask(self.calls.chtab_distances, *places, written(out, numpy.int64)))
         return out
 
     def few_distances(self, sources: Sequence[int], targets: Sequence[int]) -> list[int] | None:
-        """The same for at most `FEW` pairs, in lists of numbers from 0 to 2^32 - 1, in a tenth of the time, because it makes and checks no array.
-        Returns None to the handler of a signal that asks in the middle of such a question, which has to use arrays."""
+        """The same for at most `FEW` pairs, in lists, in a tenth of the time, because it makes and
+        checks no array; None to the handler of a signal in the middle of such a question."""
         count = len(sources)
         with self.lock:
             if self.is_asked:
@@ -312,7 +328,9 @@ class Handle:
             try:
                 self.is_asked = True
                 self.sources[:count], self.targets[:count] = list(sources), list(targets)
-                status = self.calls.chtab_distances(self.at, self.rooms[0], count, self.rooms[1], count, self.rooms[2], count)
+                out, into, weights = self.rooms
+                status = self.calls.chtab_distances(
+                    self.at, out, count, into, count, weights, count)
                 found = self.weights[:count]
             finally:
                 self.is_asked = False
@@ -321,145 +339,104 @@ class Handle:
         return found
 
     def table(self, sources: Nodes, targets: Nodes, limit: int = NO_LIMIT) -> Integers:
-        """The distances from each source to each target (k, l), -1 where there is no walk, or none of at most `limit`."""
+        """The distances from each source to each target (k, l), -1 for no walk within the limit."""
         if not 0 <= limit <= NO_LIMIT:
             raise ValueError("a limit is a number of 64 bits")
         out = numpy.empty(len(sources) * len(targets), numpy.int64)
-        places = address(sources, numpy.uint32), address(targets, numpy.uint32), address(out, numpy.int64, True)
-        with self.lock:
-            status = self.calls.chtab_table(self.at, places[0], len(sources), places[1], len(targets), limit, places[2], len(out))
-        see_that_done(status)
+        places = column(sources, NODE), column(targets, NODE)
+        see_that_done(self.ask(self.calls.chtab_table, *places, limit, written(out, numpy.int64)))
         return out.reshape(len(sources), len(targets))
 
-    def route(self, source: int, target: int) -> tuple[int, Nodes]:
-        """The weight of a route between two nodes, from 0 on, and its nodes, uint32; -1 and no nodes where there is no walk."""
-        if not (0 <= source < 2**32 and 0 <= target < 2**32):
-            raise ValueError("a node is a number of 32 bits")
-        # The output belongs to this call, because the handler of a signal may ask before it is read.
-        found, nodes = Found(), numpy.empty(self.room, numpy.uint32)
-        with self.lock:
-            status = self.find(source, target, found, nodes)
-            if status == TOO_SHORT:
-                self.room = max(found.nodes, 2 * self.room)
-                nodes = numpy.empty(self.room, numpy.uint32)
-                status = self.find(source, target, found, nodes)
-        see_that_done(status)
-        return -1 if found.weight == NO_DISTANCE else found.weight, nodes[:found.nodes].copy()
-
-    def find(self, source: int, target: int, found: Found, nodes: Nodes) -> int:
-        """Writes the route, if its nodes fit."""
-        at = address(nodes, numpy.uint32, True)
-        return self.calls.chtab_route(self.at, source, target, ctypes.byref(found), at, len(nodes))
-
-    def routes(self, sources: Nodes, targets: Nodes, room: int) -> tuple[Integers, Integers, Nodes]:
-        """The routes from each source to the target beside it, columns of uint32, nodes from 0 on: of as many of the first pairs as fit into `room`
-        nodes. Returns their weights, int64, -1 where there is no walk; the ends of their nodes, int64; and the nodes, uint32."""
-        return self.find_many(sources, targets, numpy.empty(room, numpy.uint32), numpy.empty(0, numpy.uint32))[:3]
-
-    def routes_with_lines(self, sources: Nodes, targets: Nodes, room: int) -> tuple[Integers, Integers, Nodes, Nodes]:
-        """The same, and for each node the line of the arc that leads to it, uint32: its place among the arcs of the graph's file, from 0 on. For the
-        first node of a route it is `NO_LINE`."""
-        return self.find_many(sources, targets, numpy.empty(room, numpy.uint32), numpy.empty(room, numpy.uint32))
-
-    def find_many(self, sources: Nodes, targets: Nodes, nodes: Nodes, lines: Nodes) -> tuple[Integers, Integers, Nodes, Nodes]:
-        """Writes the routes of the first pairs, as many as fit."""
-        count = ctypes.c_uint64()
-        weights, ends = numpy.empty(len(sources), numpy.int64), numpy.empty(len(sources), numpy.int64)
-        given: list[Any] = [address(sources, numpy.uint32), len(sources), address(targets, numpy.uint32), len(targets), ctypes.byref(count)]
-        columns: list[tuple[NDArray[Any], type]] = [(weights, numpy.int64), (ends, numpy.int64), (nodes, numpy.uint32), (lines, numpy.uint32)]
-        for array, kind in columns:
-            given += [address(array, kind, True), len(array)]
-        with self.lock:
-            status = self.calls.chtab_routes(self.at, *given)
+    def routes_with_lines(
+        self, sources: Nodes, targets: Nodes, room: int,
+    ) -> tuple[Integers, Integers, Nodes, Nodes]:
+        """The routes of as many of the first pairs as fit into `room` nodes: their weights, -1 for
+        no walk, the ends of their nodes, these, and the lines of the graph's file that the arcs to
+        them have, from 0 on; for a first node `NO_LINE`."""
+        count, (weights, ends) = ctypes.c_uint64(), numpy.empty((2, len(sources)), numpy.int64)
+        nodes, lines = numpy.empty((2, room), NODE)
+        status = self.ask(
+            self.calls.chtab_routes, column(sources, NODE), column(targets, NODE),
+            ctypes.byref(count), written(weights, numpy.int64), written(ends, numpy.int64),
+            written(nodes, NODE), written(lines, NODE))
         see_that_done(OK if status == TOO_SHORT else status)
         ends = ends[:count.value]
         end = ends[-1] if len(ends) else 0
         return weights[:count.value], ends, nodes[:end], lines[:end]
 
-    def route_sums(self, sources: Nodes, targets: Nodes, values: Unsigned) -> tuple[Integers, Unsigned]:
-        """The weights of the routes from each source to the target beside it, columns of uint32, nodes from 0 on: int64, -1 where there is no walk;
-        and the sums of the values on the lines of their arcs, uint64, 0 where there is no walk. `values` has one for each arc of the graph's file.
-        Raises a `ValueError` if a sum is 2^64 or more."""
-        count = ctypes.c_uint64()
-        weights, sums = numpy.empty(len(sources), numpy.int64), numpy.empty(len(sources), numpy.uint64)
-        given: list[Any] = []
-        columns: list[tuple[NDArray[Any], type]] = [(sources, numpy.uint32), (targets, numpy.uint32), (values, numpy.uint64)]
-        for array, kind in columns:
-            given += [address(array, kind), len(array)]
-        given += [ctypes.byref(count), address(weights, numpy.int64, True), len(weights), address(sums, numpy.uint64, True), len(sums)]
-        with self.lock:
-            status = self.calls.chtab_route_sums(self.at, *given)
-        see_that_done(status)
+    def route_sums(
+        self, sources: Nodes, targets: Nodes, values: Unsigned,
+    ) -> tuple[Integers, Unsigned]:
+        """The weights of the routes of pairs, -1 for no walk, and the sums of the values of their
+        arcs, 0 for no walk; `values` has one for each arc. A sum of 2^64 is refused."""
+        count, weights = ctypes.c_uint64(), numpy.empty(len(sources), numpy.int64)
+        sums = numpy.empty(len(sources), NUMBER)
+        see_that_done(self.ask(
+            self.calls.chtab_route_sums, column(sources, NODE), column(targets, NODE),
+            column(values, NUMBER), ctypes.byref(count), written(weights, numpy.int64),
+            written(sums, NUMBER)))
         return weights, sums
 
-    def flows(self, sources: Nodes, targets: Nodes, demands: Unsigned, lines: int) -> tuple[int, Unsigned]:
-        """The number of pairs without a walk, of the sources and the targets beside them, columns of uint32, nodes from 0 on; and the flow on each of
-        the `lines` of the graph's file, uint64: the sum of the demands of the pairs whose routes take its arc. Raises a `ValueError` if a flow is more
-        than 2^63."""
+    def flows(
+        self, sources: Nodes, targets: Nodes, demands: Unsigned, lines: int,
+    ) -> tuple[int, Unsigned]:
+        """The number of pairs without a walk, and the flow on each of the `lines` of the graph: the
+        demands of the pairs whose routes take its arc. A flow of more than 2^63 is refused."""
         return self.flows_by(self.calls.chtab_flows, sources, targets, demands, lines)
 
-    def flows_table(self, sources: Nodes, targets: Nodes, demands: Unsigned, lines: int) -> tuple[int, Unsigned]:
-        """The same of each source with each target, by the demands of all cells, uint64, row after row."""
+    def flows_table(
+        self, sources: Nodes, targets: Nodes, demands: Unsigned, lines: int,
+    ) -> tuple[int, Unsigned]:
+        """The same of each source with each target, by the demands of cells row after row."""
         return self.flows_by(self.calls.chtab_flows_table, sources, targets, demands, lines)
 
-    def flows_by(self, call: Callable[..., int], sources: Nodes, targets: Nodes, demands: Unsigned, lines: int) -> tuple[int, Unsigned]:
+    def flows_by(
+        self, call: Callable[..., int], sources: Nodes, targets: Nodes, demands: Unsigned,
+        lines: int,
+    ) -> tuple[int, Unsigned]:
         """What a call of the library gives of flows."""
-        missed, flows = ctypes.c_uint64(), numpy.empty(lines, numpy.uint64)
-        given: list[Any] = []
-        columns: list[tuple[NDArray[Any], type]] = [(sources, numpy.uint32), (targets, numpy.uint32), (demands, numpy.uint64)]
-        for array, kind in columns:
-            given += [address(array, kind), len(array)]
-        given += [ctypes.byref(missed), address(flows, numpy.uint64, True), len(flows)]
-        with self.lock:
-            status = call(self.at, *given)
+        missed, flows = ctypes.c_uint64(), numpy.empty(lines, NUMBER)
+        places = column(sources, NODE), column(targets, NODE), column(demands, NUMBER)
+        status = self.ask(call, *places, ctypes.byref(missed), written(flows, NUMBER))
         if status == SUM_TOO_LARGE:
             raise ValueError("a flow is more than 2^63")
         see_that_done(status)
         return missed.value, flows
 
-    def keep_places(self, places: Nodes, limit: int = NO_LIMIT, count: int = ALL, is_from: bool = False) -> None:
-        """Searches from places, a column of uint32, nodes from 0 on, and keeps the result in place of an earlier one: for rows of at most `count`
-        places, within `limit`, by the distances to the places or from them."""
+    def keep_places(
+        self, places: Nodes, limit: int = NO_LIMIT, count: int = ALL, is_from: bool = False,
+    ) -> None:
+        """Searches from places, and keeps the result for rows of at most `count` places within the
+        limit, by the distances to the places or from them."""
         if not (0 <= limit <= NO_LIMIT and 0 <= count <= ALL):
             raise ValueError("a limit is a number of 64 bits, and a count one of 32")
-        at = address(places, numpy.uint32)
-        with self.lock:
-            status = self.calls.chtab_near_places(self.at, int(is_from), at, len(places), limit, count)
-        see_that_done(status)
+        call, own = self.calls.chtab_near_places, column(places, NODE)
+        see_that_done(self.ask(call, int(is_from), own, limit, count))
 
     def sweep(self) -> None:
         """Makes the rows of all nodes to the kept places, and keeps these rows too."""
-        with self.lock:
-            status = self.calls.chtab_near_sweep(self.at)
-        see_that_done(status)
+        see_that_done(self.ask(self.calls.chtab_near_sweep))
 
     def near_rows(self, sources: Nodes, pairs: int) -> tuple[Integers, Integers, Integers]:
-        """The rows of the first sources, a column of uint32, nodes from 0 on, to the kept places: of as many sources as fit into this many pairs.
-        Returns the end of each row, its weights and its places, int64."""
+        """The rows to the kept places of as many of the first sources as fit into so many pairs:
+        the end of each row, the weights and the places."""
         rows, ends = ctypes.c_uint64(), numpy.empty(len(sources), numpy.int64)
-        weights, places = numpy.empty(pairs, numpy.int64), numpy.empty(pairs, numpy.uint32)
-        given: list[Any] = [address(sources, numpy.uint32), len(sources), ctypes.byref(rows)]
-        columns: list[tuple[NDArray[Any], type]] = [(ends, numpy.int64), (weights, numpy.int64), (places, numpy.uint32)]
-        for array, kind in columns:
-            given += [address(array, kind, True), len(array)]
-        with self.lock:
-            status = self.calls.chtab_near_rows(self.at, *given)
+        weights, places = numpy.empty(pairs, numpy.int64), numpy.empty(pairs, NODE)
+        status = self.ask(
+            self.calls.chtab_near_rows, column(sources, NODE), ctypes.byref(rows),
+            written(ends, numpy.int64), written(weights, numpy.int64), written(places, NODE))
         see_that_done(OK if status == TOO_SHORT else status)
         ends = ends[:rows.value]
         end = ends[-1] if len(ends) else 0
         return ends, weights[:end], places[:end].astype(numpy.int64)
 
     def near_sums(self, sources: Nodes, values: Unsigned, limits: Unsigned) -> Unsigned:
-        """The sums over the rows of sources, a column of uint32, nodes from 0 on, to the kept places: for each source and each limit the sum of the
-        values of the places within the limit, uint64 (n, m). Raises a `ValueError` if a sum is 2^64 or more."""
-        count, sums = ctypes.c_uint64(), numpy.empty(len(sources) * len(limits), numpy.uint64)
-        given: list[int] = []
-        columns: list[tuple[NDArray[Any], type]] = [(sources, numpy.uint32), (values, numpy.uint64), (limits, numpy.uint64)]
-        for array, kind in columns:
-            given += [address(array, kind), len(array)]
-        with self.lock:
-            status = self.calls.chtab_near_sums(self.at, *given, ctypes.byref(count), address(sums, numpy.uint64, True), len(sums))
-        see_that_done(status)
+        """For each source and limit the sum of the values of the kept places in its row within the
+        limit (n, m). A sum of 2^64 is refused."""
+        count, sums = ctypes.c_uint64(), numpy.empty(len(sources) * len(limits), NUMBER)
+        given = column(sources, NODE), column(values, NUMBER), column(limits, NUMBER)
+        call = self.calls.chtab_near_sums
+        see_that_done(self.ask(call, *given, ctypes.byref(count), written(sums, NUMBER)))
         return sums.reshape(len(sources), len(limits))
 
 
@@ -469,28 +446,25 @@ def see_that_done(status: int) -> None:
         raise ChtabError(GONE)
     if status == NO_MEMORY:
         raise ProgramFault("chtab: out of memory", 3)
-    if status == NODE_RANGE:
-        raise ValueError("a node is not one of the network")
-    if status == LENGTHS:
-        raise ValueError("the lengths of columns don't fit")
-    if status == TOO_LARGE:
-        raise ValueError("a table has at most 65,536 sources and as many targets, and so many places are kept")
-    if status == NO_PLACES:
-        raise ValueError("no places are kept")
-    if status == SUM_TOO_LARGE:
-        raise ValueError("a sum is 2^64 or more")
-    if status == OTHER_NODES:
-        raise ValueError("the graph has another number of nodes")
-    if status == FRESH_RANGE:
-        raise ValueError("more than 100 per cent of the nodes would be ordered afresh")
+    if status in REFUSED:
+        raise ValueError(REFUSED[status])
     if status:
         raise ProgramFault(f"chtab's library answered {status}", 0)
 
 
+# What calls refuse, by their statuses.
+REFUSED = {
+    NODE_RANGE: "a node is not one of the network", LENGTHS: "the lengths of columns don't fit",
+    TOO_LARGE: "a table has at most 65,536 sources and as many targets, and so many places are kept",
+    NO_PLACES: "no places are kept", SUM_TOO_LARGE: "a sum is 2^64 or more",
+    OTHER_NODES: "the graph has another number of nodes",
+    FRESH_RANGE: "more than 100 per cent of the nodes would be ordered afresh",
+}
+
+
 def given_bytes(saved: bytes | None) -> bytes:
-    """The bytes of a saved hierarchy, as the library takes them; none where it builds one. An empty
-    file has to be a fault, and without any bytes the library would build a hierarchy. So it gets an
-    empty line in its place."""
+    """The bytes of a saved hierarchy, none where the library builds one."""
+    # An empty file has to be a fault, and without any bytes a hierarchy would be built.
     return b"" if saved is None else saved or b"\n"
 
 
@@ -508,7 +482,8 @@ def fault_of(status: int, fault: Fault) -> ProgramFault:
     if status not in (BAD_GRAPH, BAD_SAVED, WRONG_SAVED):
         see_that_done(status)
     if status == WRONG_SAVED:
-        return ProgramFault(f"chtab: saved hierarchy refused: {kind}", 1, kind=kind, place=fault.place)
+        return ProgramFault(
+            f"chtab: saved hierarchy refused: {kind}", 1, kind=kind, place=fault.place)
     if status == BAD_GRAPH and not fault.line:
         text = f"chtab: graph arc {fault.place}: {kind}"
         return ProgramFault(text, 1, kind=kind, place=fault.place)

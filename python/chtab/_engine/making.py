@@ -29,12 +29,7 @@ if TYPE_CHECKING:
 
 # The files of a network in its folder.
 GRAPH, SAVED, COORDINATES, BENDS, LABELS = (
-    "network.gr",
-    "network.ch",
-    "network.co",
-    "network.bends",
-    "network.json",
-)
+    "network.gr", "network.ch", "network.co", "network.bends", "network.json")
 NAMES, STREETS, WAYS = "network.nodes", "network.names", "network.ways"
 # The text of a hierarchy mostly has fewer bytes than this for each node and arc.
 BYTES = 64
@@ -42,8 +37,7 @@ BYTES = 64
 
 @contextlib.contextmanager
 def begun(folder: Path) -> Iterator[str]:
-    """Lends a folder beside the wanted one, which gets its name if all was written without an
-    error, and is removed otherwise."""
+    """Lends a folder that gets the wanted name if all was written, and is removed otherwise."""
     folder = os.path.realpath(folder)
     see_that_free(folder)
     os.makedirs(os.path.dirname(folder), exist_ok=True)
@@ -64,34 +58,27 @@ def begun(folder: Path) -> Iterator[str]:
 def see_that_free(folder: str) -> None:
     if os.path.lexists(folder) and not (os.path.isdir(folder) and not os.listdir(folder)):
         raise FileExistsError(
-            f"{folder} is there and is not empty; Network.open opens the network of a folder"
-        )
+            f"{folder} is there and is not empty; Network.open opens the network of a folder")
 
 
 def write(
     arcs: Arcs, folder: str, program: str, calls: ctypes.CDLL, running: Running,
 ) -> Handle | None:
-    """Writes the files of arcs into a folder, and builds their hierarchy, by the program or by the
-    calls of the library. `running` has the number of workers, the network in whose order it is
-    built, and where progress is reported. Returns a handle of the network if it was built in this
-    process."""
+    """Writes the files of arcs into a folder, and builds their hierarchy. Returns a handle of the
+    network if it was built in this process."""
     graph, saved, coordinates, bends, labels = (
-        os.path.join(folder, name) for name in (GRAPH, SAVED, COORDINATES, BENDS, LABELS)
-    )
+        os.path.join(folder, name) for name in (GRAPH, SAVED, COORDINATES, BENDS, LABELS))
     comments = [f"Weights are {arcs.base}."] * bool(arcs.base) + (
         [] if arcs.scale is None else [files.scale_comment(arcs.scale)]
     )
     with naming(graph):
         files.write_graph_columns(
-            graph, arcs.labels.count, (arcs.tails, arcs.heads, arcs.weights), comments
-        )
+            graph, arcs.labels.count, (arcs.tails, arcs.heads, arcs.weights), comments)
     with naming(coordinates):
         if arcs.places is not None:
             files.write_coordinate_columns(
-                coordinates,
-                [numpy.rint(part * 1e6).astype(numpy.int64) for part in arcs.places],
-                arcs.turns,
-            )
+                coordinates, [numpy.rint(part * 1e6).astype(numpy.int64) for part in arcs.places],
+                arcs.turns)
         if arcs.beside is not None:
             arcs.beside.copy_to(folder)
     with naming(bends):
@@ -119,25 +106,14 @@ def labelling_of(arcs: Arcs, digest: str) -> files.Labelling:
     """The content of the file of labels for arcs whose graph has this SHA-256."""
     labels = arcs.labels.values.tolist() if isinstance(arcs.labels, Labels) else None
     rows, index = (
-        None if column is None else column.tolist() for column in (arcs.arcs, arcs.index)
-    )
+        None if column is None else column.tolist() for column in (arcs.arcs, arcs.index))
     return files.Labelling(
-        labels,
-        arcs.scale,
-        arcs.rounding,
-        digest,
-        arcs.unit,
-        arcs.rows,
-        rows,
-        arcs.keys,
-        arcs.ways,
-        index,
-    )
+        labels, arcs.scale, arcs.rounding, digest, arcs.unit, arcs.rows, rows, arcs.keys, arcs.ways,
+        index)
 
 
 class Beside:
-    """The files of a network that a scenario copies: the places of its nodes, their names on the
-    map, and the streets and ways of its arcs."""
+    """The files of a network that a scenario copies: places and names of nodes, streets, ways."""
 
     def __init__(
         self, layers: Any, streets: files.Streets | None = None, ways: Sequence[int] | None = None
@@ -147,8 +123,7 @@ class Beside:
         self.paths = {COORDINATES: layers.paths["coordinates"], NAMES: base + ".nodes"}
 
     def copy_to(self, folder: str) -> None:
-        """Copies them into a folder, and refuses files that were changed since the network was
-        opened. They are copied as they are, because their comments say where trips end."""
+        """Copies them with their comments, which say where trips end, if they have not changed."""
         for name, path in self.paths.items():
             if path is not None and os.path.exists(path):
                 shutil.copyfile(path, os.path.join(folder, name))
@@ -166,12 +141,8 @@ def digest_of(path: str) -> str:
 
 
 def build(program: str, graph: str, saved: str, running: Running) -> Handle | None:
-    """Builds the hierarchy of a graph, and saves it.
-
-    The program does so, in the order of another network if its saved hierarchy is there, and
-    otherwise in the order that takes the least time to find. The order of a network also comes from
-    the network itself, in this process, whose handle is returned.
-    """
+    """Builds the hierarchy of a graph, and saves it: the program does, in the order that takes the
+    least time to find, or in that of a saved hierarchy; or the network `like`, with a handle."""
     like, workers = running.like, ["--workers", str(running.workers)]
     if like is None:
         running_of.save(program, graph, saved, ["--quick", *workers], running.progress)
@@ -185,8 +156,7 @@ def build(program: str, graph: str, saved: str, running: Running) -> Handle | No
 
 
 def save_alone(arcs: Arcs, calls: ctypes.CDLL, saved: str) -> Handle:
-    """Builds the hierarchy of arcs in this process, and saves it. Returns a handle of its
-    network."""
+    """Builds the hierarchy of arcs in this process, and saves it; a handle of its network."""
     handle, nodes = library.Handle(calls), arcs.labels.count
     columns = library.columns_of(nodes, arcs.tails, arcs.heads, arcs.weights)
     interruptible(LONG, handle.open_arrays, nodes, *columns)
@@ -196,8 +166,7 @@ def save_alone(arcs: Arcs, calls: ctypes.CDLL, saved: str) -> Handle:
 
 
 def save_like(giver: InProcess, graph: str, saved: str, fresh: int) -> Handle:
-    """Builds the hierarchy of a graph in the order of another network, and saves it. Returns a
-    handle of its network."""
+    """The same of a graph in the order of another network."""
     with open(graph, "rb") as file:
         handle = giver.opened_like(file.read(), fresh)
     # Networks of the same nodes have texts of about one length.
@@ -209,8 +178,7 @@ def save_like(giver: InProcess, graph: str, saved: str, fresh: int) -> Handle:
 
 
 def layers_of(arcs: Arcs) -> dict[str, Any]:
-    """The layers of a network that are known from its arcs without reading files: the labels and
-    places of its nodes."""
+    """The layers of a network that are known from its arcs, without its files."""
     unit = arcs.base if arcs.base in files.UNITS else ""
     tails, heads, weights = (fixed(column) for column in (arcs.tails, arcs.heads, arcs.weights))
     layers: dict[str, Any] = {"graph": files.Graph(arcs.labels.count, tails, heads, weights, unit)}
@@ -224,13 +192,10 @@ def layers_of(arcs: Arcs) -> dict[str, Any]:
 
 
 def read_labelling(path: str, graph: str) -> files.Labelling:
-    """Reads the labels of a network and the other entries of their file, which have to belong to
-    the graph."""
+    """Reads the labels of a network, and refuses those of another graph."""
     found = files.read_labels(path)
     if (
-        found.labels is not None
-        and len(found.labels) != files.count_nodes(graph)
-        or found.graph != digest_of(graph)
-    ):
+        found.labels is not None and len(found.labels) != files.count_nodes(graph)
+        or found.graph != digest_of(graph)):
         raise FileFault(f"{path}: not the labels of {graph}")
     return found

@@ -27,24 +27,13 @@ MOST_WORKERS = 64
 
 @dataclass(frozen=True)
 class Setting:
-    """What an engine answers from.
-
-    Parameters
-    ----------
-    program, library, graph : str
-        The paths of the program, of the library and of the graph.
-    saved : str, optional
-        The path of a saved hierarchy.
-    workers : int
-        The threads that build a hierarchy, and those that answer a large question, from 1 to 64.
-    timeout : float, optional
-        The most seconds that a call may take; None: no limit.
-    """
+    """What an engine answers from, by paths."""
 
     program: str
     library: str
     graph: str
     saved: str | None = None
+    # The threads that build a hierarchy or answer a large question, and the seconds of a call.
     workers: int = 1
     timeout: float | None = None
 
@@ -100,8 +89,7 @@ def see_that_count(name: str, value: Any, least: int, most: int) -> None:
 
 
 def library_of(program: str, choice: Path | bool | None) -> str:
-    """The path of the library: the one that the caller names, or the one beside the program, which
-    is made first where that can be done. Raises a `ChtabError` if there is none."""
+    """The path of the library: the caller's, or that beside the program, made first if it can."""
     if choice is False:
         text = "library=False has no effect: runs of the program no longer answer"
         warnings.warn(text, FutureWarning, stacklevel=6)
@@ -115,8 +103,7 @@ def library_of(program: str, choice: Path | bool | None) -> str:
     if found is None:
         why = (
             f"there is no {library.NAME} beside the program {program}, or it is older than the "
-            "sources"
-        )
+            "sources")
         raise ChtabError(f"{why}; in a checkout `packaging/library` makes it, by gcc")
     return found
 
@@ -151,8 +138,7 @@ def of_folder(
     folder: str, running: Running, saved: Path | None = None, coordinates: Path | None = None,
     bends: Path | None = None,
 ) -> Opening:
-    """The opening of a network that was made in a folder. Given files replace those of the
-    folder."""
+    """The opening of a network in a folder, whose files given ones replace."""
     names = making.GRAPH, making.SAVED, making.LABELS
     graph, own, labelling = (os.path.join(folder, name) for name in names)
     saved, coordinates, bends = paths_of(saved or own, coordinates, bends)
@@ -175,9 +161,8 @@ def see_that_readable(*paths: str | None) -> None:
 def made(
     arcs: Arcs, folder: Path | None, running: Running,
 ) -> tuple[Opening, folders.Folder | None, Handle | None]:
-    """The opening of arcs, whose files are written; the temporary folder that keeps them, None
-    where the caller names one; and a handle of the library in the network, if it was built in this
-    process."""
+    """The opening of arcs, whose files are written; their folder if it is a temporary one; and a
+    handle in the network if it was built in this process."""
     program = program_of(running.program)
     see_to(program)
     # Said before a hierarchy is built.

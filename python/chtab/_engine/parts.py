@@ -19,17 +19,7 @@ SECONDS, FIRST, GROWTH = 0.02, 64, 4
 
 
 class Parts:
-    """Slices of so many items, for several threads. Each item is in one of them.
-
-    Parameters
-    ----------
-    count, most : int
-        How many items there are, and how many a part has at most.
-    deadline : deadlines.Deadline
-        Until when all have to be made. Where it has an end, parts are as short as `SECONDS`.
-    progress : Progress
-        Counts the items that are done.
-    """
+    """Slices of at most `most` of `count` items, which threads take until a deadline."""
 
     def __init__(
         self, count: int, most: int, deadline: deadlines.Deadline, progress: Progress
@@ -72,11 +62,7 @@ def make(
     count: int, most: int, workers: int, work: Callable[[Iterator[slice]], None],
     name: str, things: str, progress: Asked, seconds: float | None,
 ) -> None:
-    """Makes all parts of `count` items, by `work`, which makes those that it is given.
-
-    Up to `workers` threads do so, each by its own call. Whatever one of them raises ends the
-    others. Raises `TimedOut` after so many seconds of the call that this thread is making.
-    """
+    """Makes all parts by `work`, in up to `workers` threads; a fault of one ends the others."""
     deadline = deadlines.current(seconds)
     with progress_of(progress, name, count, things, False) as counted:
         parts = Parts(count, most, deadline, counted)

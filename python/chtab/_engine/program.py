@@ -13,29 +13,17 @@ from chtab.errors import ChtabError
 if TYPE_CHECKING:
     from chtab.typing import Path
 
-# The package, and the folder that it is in: `python` of a checkout or of an installation by `install`, or a folder of Python's packages.
+# The package, and the folder that it is in: `python` of a checkout or of an installation by
+# `install`, or a folder of Python's packages.
 PACKAGE = pathlib.Path(__file__).parent.parent
 ABOVE = PACKAGE.resolve().parent
-LACKING = "the program chtab is neither beside this package nor beside the script that runs nor on the path; " \
-    "name it: `--program FILE` for a command, `program=` from Python"
+LACKING = (
+    "the program chtab is neither beside this package nor beside the script that runs nor on the "
+    "path; name it: `--program FILE` for a command, `program=` from Python")
 
 
 def program_of(path: Path | None = None) -> str:
-    """The path of the program.
-
-    These are tried in order: the one that the caller names; that of the checkout or installation that the package is in; the one that pip or Debian's
-    package installed along with the package; the one beside the running script; `chtab` on the path.
-
-    Parameters
-    ----------
-    path : str or path, optional
-        The program, if the caller names it.
-
-    Raises
-    ------
-    ChtabError
-        There is none.
-    """
+    """The path of the program: the caller's, or one of `candidates`, or `chtab` on the path."""
     if path is not None:
         return os.path.abspath(path)
     for found in candidates():

@@ -1,4 +1,5 @@
-"""Progress of long calls on standard error: a bar of tqdm if that is a terminal and tqdm is installed, and otherwise a line now and then."""
+"""Progress of long calls on standard error: a bar of tqdm if that is a terminal and tqdm is
+installed, and otherwise a line now and then."""
 from __future__ import annotations
 
 import sys
@@ -16,39 +17,44 @@ MANY = 100_000
 
 
 # A function that gets how many things are done, and of how many.
-Told: TypeAlias = Callable[[int, int], Any]
+Steps: TypeAlias = Callable[[int, int], Any]
 # Seconds from one line to the next where a caller asks for them.
 ASKED_SECONDS = 1.0
 
 
-def progress_of(asked: Asked, name: str, total: int | None, things: str, is_told: bool = True) -> Progress:
-    """The progress of a call of a network, by its argument `progress`: None means `is_told`, and a callable gets the counts."""
+def progress_of(
+    asked: Asked, name: str, total: int | None, things: str, is_shown: bool = True,
+) -> Progress:
+    """The progress of a call by its argument `progress`: None means `is_shown`."""
     if callable(asked):
-        return Progress(name, total, things, is_told=False, call=asked)
+        return Progress(name, total, things, is_shown=False, call=asked)
     if asked is not None and not isinstance(asked, bool):
         raise TypeError(f"progress is True, False or a call, not {asked!r}")
-    return Progress(name, total, things, ASKED_SECONDS if asked else None, is_told if asked is None else asked)
+    return Progress(
+        name, total, things, ASKED_SECONDS if asked else None, is_shown if asked is None else asked)
 
 
 Item = TypeVar("Item")
 
 
 class Progress:
-    """Counts what is done of `total` things (None if their number isn't known). Nothing is reported of what ends within `seconds` (`SECONDS`), nor if
-    `is_told` is false. A `call`, if there is one, gets the count and the total at each step instead.
+    """Counts what is done of `total` things, None if their number isn't known, and reports it every
+    `seconds` if `is_shown`. A `call` gets the count and the total at each step instead.
 
         with Progress("blocks", 49, "blocks") as progress:
             progress.step()
     """
 
     def __init__(
-        self, name: str, total: int | None, things: str, seconds: float | None = None, is_told: bool = True, call: Told | None = None,
+        self, name: str, total: int | None, things: str, seconds: float | None = None,
+        is_shown: bool = True, call: Steps | None = None,
     ) -> None:
-        self.name, self.total, self.things, self.is_told, self.call = name, total, things, is_told, call
+        self.name, self.total, self.things = name, total, things
+        self.is_shown, self.call = is_shown, call
         self.seconds = SECONDS if seconds is None else seconds
         self.done, self.begun = 0, time.monotonic()
-        self.told = self.begun
-        self.bar = self.bar_of_tqdm() if is_told and sys.stderr.isatty() else None
+        self.reported = self.begun
+        self.bar = self.bar_of_tqdm() if is_shown and sys.stderr.isatty() else None
 
     def bar_of_tqdm(self) -> Any:
         try:
@@ -56,7 +62,9 @@ class Progress:
         except ImportError:
             return None
         is_scaled = self.total is None or self.total > MANY
-        return tqdm.tqdm(desc=self.name, total=self.total, unit=f" {self.things}", unit_scale=is_scaled, delay=1, leave=False)
+        return tqdm.tqdm(
+            desc=self.name, total=self.total, unit=f" {self.things}", unit_scale=is_scaled, delay=1,
+            leave=False)
 
     def step(self, count: int = 1) -> None:
         """Counts that many more as done."""
@@ -65,8 +73,8 @@ class Progress:
             self.call(self.done, self.total or 0)
         elif self.bar is not None:
             self.bar.update(count)
-        elif self.is_told and time.monotonic() - self.told >= self.seconds:
-            self.told = time.monotonic()
+        elif self.is_shown and time.monotonic() - self.reported >= self.seconds:
+            self.reported = time.monotonic()
             print(self.line(), file=sys.stderr, flush=True)
 
     def each(self, items: Iterable[Item]) -> Iterator[Item]:
@@ -80,7 +88,8 @@ class Progress:
         if not self.total:
             return f"{self.name}: {self.done:,} {self.things} after {spent:.0f} s"
         left = spent * (self.total - self.done) / max(self.done, 1)
-        return f"{self.name}: {self.done:,} of {self.total:,} {self.things} after {spent:.0f} s, some {left:.0f} s left"
+        done = f"{self.name}: {self.done:,} of {self.total:,} {self.things} after {spent:.0f} s"
+        return f"{done}, some {left:.0f} s left"
 
     def __enter__(self) -> Progress:
         return self

@@ -24,12 +24,10 @@ PROGRESS = re.compile(r"chtab: [^,]+, ([\d,]*\d) of ([\d,]*\d) ")
 
 @functools.cache
 def see_to(program: str) -> None:
-    """Makes sure that the program can be run. In a checkout its script proves and builds it first,
-    with the library, and reports that on standard error."""
+    """Sees that the program runs. In a checkout its script proves and builds it first."""
     try:
         done = subprocess.run(
-            [program, "--help"], stdin=subprocess.DEVNULL, stdout=subprocess.DEVNULL
-        )
+            [program, "--help"], stdin=subprocess.DEVNULL, stdout=subprocess.DEVNULL)
     except OSError as fault:
         raise ChtabError(f"{program} can't be run: {fault.strerror}") from None
     if done.returncode:
@@ -46,17 +44,13 @@ def fault_of(text: bytes, status: int) -> ProgramFault:
 
 
 def bound(command: Sequence[str]) -> list[str]:
-    """A command that ends when the thread that starts it is gone, such as by SIGKILL: by `setpriv`
-    of Linux, where it is installed."""
+    """A command that ends with the thread that starts it, by `setpriv` of Linux where that is."""
     found = shutil.which("setpriv") if sys.platform == "linux" else None
     return [found, "--pdeathsig", "KILL", *command] if found else list(command)
 
 
 def save(program: str, graph: str, saved: str, words: Sequence[str], progress: Progress) -> None:
-    """Builds the hierarchy of a graph by a run with these options, and saves it.
-
-    Raises a `ProgramFault` if the program fails. Whatever breaks this off ends the run.
-    """
+    """Builds the hierarchy of a graph by a run with these options. Faults end the run."""
     command = [program, "save", *words, *["--progress"] * bool(progress), graph]
     # Errors go to a file, because a process that is forked meanwhile would keep a pipe open.
     with open(saved, "wb") as out, tempfile.TemporaryFile() as errors:
@@ -75,8 +69,7 @@ def save(program: str, graph: str, saved: str, words: Sequence[str], progress: P
 
 
 def watch(process: subprocess.Popen[bytes], lines: IO[bytes], progress: Progress) -> None:
-    """Waits for the end of a process that builds. Meanwhile its lines of progress are reported on
-    standard error, or as numbers to a callable."""
+    """Waits for the end of a process that builds, and reports its lines of progress."""
     read, is_over = 0, False
     while not is_over:
         try:

@@ -13,20 +13,13 @@ Stamp: TypeAlias = tuple[int, int, int, int]
 
 
 class Stamps:
-    """The stamps of some files, which show later whether one of them was replaced.
-
-    Parameters
-    ----------
-    *paths : str or None
-        The files; None is ignored.
-    """
+    """The stamps of some files, which show later whether one of them was replaced."""
 
     def __init__(self, *paths: str | None) -> None:
         self.by_path = {path: stamp_of(path) for path in paths if path is not None}
 
     def see_that_same(self, is_elsewhere: bool = False) -> None:
-        """Raises a `ProgramFault` if one of the files was written anew. On another machine a file
-        may have other numbers, but not another size or time."""
+        """Refuses files that were written anew; on another machine size and time alone count."""
         for path, stamp in self.by_path.items():
             now = stamp_of(path)
             if now[2:] != stamp[2:] or now != stamp and not is_elsewhere:
@@ -34,7 +27,6 @@ class Stamps:
 
 
 def stamp_of(path: str) -> Stamp:
-    """The stamp of the file at a path: its device, its number, its size, and the time of its last
-    change in nanoseconds."""
+    """The device, number, size, and time of the last change in nanoseconds of a file."""
     found = os.stat(path)
     return found.st_dev, found.st_ino, found.st_size, found.st_mtime_ns

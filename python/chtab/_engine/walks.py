@@ -49,6 +49,5 @@ class Walks:
 def ranges(firsts: Integers, counts: Integers) -> Integers:
     """For each pair the `count` numbers from `first` on, all in one array."""
     ends = numpy.cumsum(counts)
-    return numpy.arange(ends[-1] if len(ends) else 0) + numpy.repeat(
-        firsts - (ends - counts), counts
-    )
+    return (
+        numpy.arange(ends[-1] if len(ends) else 0) + numpy.repeat(firsts - (ends - counts), counts))

@@ -12,7 +12,7 @@ import numpy
 
 from chtab.errors import DataFault
 from chtab._files import columns, edge_lines, measures, row_index
-from chtab._files.columns import refused, quoted
+from chtab._files.columns import refuse, quoted
 from chtab._files.node_labels import Labels, Numbers, labels_of_ends, labels_of_nodes
 
 if TYPE_CHECKING:
@@ -26,8 +26,7 @@ NAMES = "sources", "targets", "weights"
 
 @dataclass(frozen=True)
 class Columns:
-    """The columns of a network, as callers give them; `Network.from_arrays` explains each. `names`
-    are the names of the first three."""
+    """The columns of a network as callers give them; `Network.from_arrays` explains each."""
 
     sources: Column
     targets: Column
@@ -48,33 +47,25 @@ class Columns:
 
 @dataclass(frozen=True)
 class Arcs:
-    """The arcs of a graph: arc k leads from node `tails[k]` to node `heads[k]` and has the weight
-    `weights[k]`, all int64.
-
-    The weights are those of the caller times `scale`, rounded by at most `rounding`, and `unit` is
-    the unit of the caller's weights, or None. `places` are the longitudes and latitudes of the
-    nodes in degrees, or None. `bends` has the points of arcs between their ends, as
-    `files.read_bends` gives them. `rows` is the number of the caller's rows; arc k belongs to row
-    `arcs[k]`, or to row k modulo `rows`. `keys` has the keys of rows, `ways` their ways of
-    OpenStreetMap, and `index` their labels, as `row_index.kept` gives them. `base` is the unit of
-    the graph's weights, and `beside` has further files of the network that are copied, or is None.
-    `turns` are the comments about nodes where turns are restricted, as `files.Coordinates.turns`
-    gives them.
-    """
+    """The arcs of a graph between nodes from 1 on, and what a network knows of them."""
 
     labels: Labels | Numbers
     tails: Integers
     heads: Integers
     weights: Integers
+    # The caller's weights, in this unit, were multiplied by `scale`, and rounded by so much.
     scale: float | None
     rounding: float
     unit: str | None
+    # Longitudes and latitudes of nodes in degrees, and points of arcs between their ends.
     places: tuple[Floats, Floats] | None
     bends: dict[int, list[Point]]
+    # The number of the caller's rows, and the row of each arc if it isn't arc modulo `rows`.
     rows: int
     arcs: Integers | None = None
     keys: list[Any] | None = None
     ways: list[list[int]] | None = None
+    # The unit of the graph, files that are copied, what rows are called, comments about turns.
     base: str = ""
     beside: Any = None
     index: LabelArray | None = None
@@ -85,8 +76,7 @@ def arcs_of(given: Columns) -> Arcs:
     """Makes arcs from columns. Whatever the program would refuse is refused here, with its row."""
     sources, targets = (
         columns.column_labels_in(name, column)
-        for name, column in zip(given.names, (given.sources, given.targets))
-    )
+        for name, column in zip(given.names, (given.sources, given.targets)))
     weights, factor, scale, unit = weights_in(given)
     columns.see_that_long(given.names, [sources, targets, weights])
     labels, (tails, heads) = nodes_of(given, sources, targets)
@@ -94,74 +84,43 @@ def arcs_of(given: Columns) -> Arcs:
     back = rows_back(given.both_ways, rows)
     see_that_in_limits(len(labels.values), rows + len(back))
     weights, rounding = whole_weights(
-        given.names[2], weights, factor, MOST_WEIGHT // len(labels.values)
-    )
+        given.names[2], weights, factor, MOST_WEIGHT // len(labels.values))
     lines = edge_lines.lines_in("geometry", given.geometry, rows)
     places = places_in(given, len(labels.values))
     if places is None and lines is not None:
         places = edge_lines.ends_of(lines, tails, heads, labels)
     bends = {} if lines is None else edge_lines.bends_of(lines, tails, heads, places)
     if len(back):
-        bends |= {
-            rows + place: bends[row][::-1]
-            for place, row in enumerate(back.tolist())
-            if row in bends
-        }
-        tails, heads = numpy.concatenate([tails, heads[back]]), numpy.concatenate(
-            [heads, tails[back]]
-        )
-        weights = numpy.concatenate([weights, weights[back]])
+        some = ((place, row) for place, row in enumerate(back.tolist()) if row in bends)
+        bends |= {rows + place: bends[row][::-1] for place, row in some}
+        tails, heads = numpy.append(tails, heads[back]), numpy.append(heads, tails[back])
+        weights = numpy.append(weights, weights[back])
     of_arcs = None if len(back) in (0, rows) else numpy.append(numpy.arange(rows), back)
     return Arcs(
-        labels,
-        tails,
-        heads,
-        weights,
-        scale,
-        rounding,
-        unit,
-        places,
-        bends,
-        rows,
-        of_arcs,
-        given.keys,
-        given.ways,
-        measures.base_of(unit, scale),
-        index=row_index.kept(given.index, rows),
-    )
+        labels, tails, heads, weights, scale, rounding, unit, places, bends, rows, of_arcs,
+        given.keys, given.ways, measures.base_of(unit, scale),
+        index=row_index.kept(given.index, rows))
 
 
 def rows_back(both_ways: Any, rows: int) -> Integers:
-    """The rows that lead back too: all or none by a truth value, or some of them by a column of
-    these."""
+    """The rows that lead back too, by a truth value or by a column of these."""
     if isinstance(both_ways, bool | numpy.bool_):
         return numpy.arange(rows if both_ways else 0)
-    if isinstance(both_ways, str):
-        raise DataFault(
-            f"both_ways is True, False, or a column of these, not {quoted(both_ways)}", "both_ways"
-        )
     marks = columns.array_of("both_ways", both_ways)
-    place = columns.first_of(
-        [not isinstance(value, bool | numpy.bool_) for value in marks.reshape(-1).tolist()]
-    )
+    values = [] if isinstance(both_ways, str) else marks.reshape(-1).tolist()
+    place = columns.first_of([not isinstance(value, bool | numpy.bool_) for value in values])
     if place is not None or marks.ndim != 1:
-        what = quoted(both_ways) if place is None else quoted(marks.reshape(-1)[place])
-        raise DataFault(
-            f"both_ways is True, False, or a column of these, not {what}", "both_ways", place
-        )
+        what = quoted(both_ways) if place is None else quoted(values[place])
+        text = f"both_ways is True, False, or a column of these, not {what}"
+        raise DataFault(text, "both_ways", place)
     if len(marks) != rows:
         raise DataFault(
-            f"both_ways has {len(marks):,} rows, and there are {rows:,} rows of arcs", "both_ways"
-        )
+            f"both_ways has {len(marks):,} rows, and there are {rows:,} rows of arcs", "both_ways")
     return numpy.flatnonzero(marks.astype(bool))
 
 
 def weights_in(given: Columns) -> tuple[NDArray[Any], float | None, float | None, str | None]:
-    """The given weights, the factor that makes them whole, how many of the graph's weights make one
-    of the caller's unit, and that unit.
-
-    Durations become milliseconds here, whatever the unit of answers is.
-    """
+    """Weights, durations as milliseconds; their factor, that of answers, and the caller's unit."""
     scale, unit = scale_in(given.scale), measures.unit_in(given.unit)
     durations = columns.durations_in(given.names[2], given.weights)
     if durations is None:
@@ -173,9 +132,7 @@ def weights_in(given: Columns) -> tuple[NDArray[Any], float | None, float | None
     if scale is not None or unit not in measures.TIMES:
         raise DataFault(
             "durations have a unit of their own: leave `scale` out, and `unit` is one of "
-            f"{', '.join(measures.TIMES)}",
-            "scale",
-        )
+            f"{', '.join(measures.TIMES)}", "scale")
     return durations, 1, measures.TIMES[unit], unit
 
 
@@ -183,10 +140,8 @@ def nodes_of(given: Columns, sources: LabelArray, targets: LabelArray) -> tuple[
     """The labels of all nodes, and the nodes of both columns of labels."""
     if given.nodes is None:
         return labels_of_ends(given.names, sources, targets)
-    labels = labels_of_nodes("nodes", given.nodes)
-    return labels, [
-        labels.nodes_of(name, column) for name, column in zip(given.names, (sources, targets))
-    ]
+    labels, ends = labels_of_nodes("nodes", given.nodes), zip(given.names, (sources, targets))
+    return labels, [labels.nodes_of(name, column) for name, column in ends]
 
 
 def see_that_in_limits(nodes: int, arcs: int) -> None:
@@ -195,34 +150,24 @@ def see_that_in_limits(nodes: int, arcs: int) -> None:
     if nodes > MOST_NODES or arcs > MOST_ARCS:
         raise DataFault(
             f"{nodes:,} nodes and {arcs:,} arcs: a graph has at most {MOST_NODES:,} nodes and "
-            f"{MOST_ARCS:,} arcs",
-            "nodes",
-        )
+            f"{MOST_ARCS:,} arcs", "nodes")
 
 
 def scale_in(scale: float | None) -> float | None:
     """A scale: a whole number, a float, or None."""
     if scale is None:
         return None
-    if (
-        isinstance(scale, bool)
-        or not isinstance(scale, numbers.Real)
-        or not (math.isfinite(scale) and scale > 0)
-    ):
+    is_number = isinstance(scale, numbers.Real) and not isinstance(scale, bool)
+    if not is_number or not 0 < scale < math.inf:
         raise DataFault(f"scale is a number above 0, not {quoted(scale)}", "scale")
     return int(scale) if int(scale) == scale else float(scale)
 
 
 def whole_weights(
-    name: str,
-    weights: NDArray[Any],
-    scale: float | None,
-    most: int,
+    name: str, weights: NDArray[Any], scale: float | None, most: int,
     hint: str = "; `unit` or `scale` says how it becomes one",
 ) -> tuple[Integers, float]:
-    """The weights of a graph, int64, none above `most`, and the largest difference between one of
-    them and the given weight times the scale. Without a scale a fraction is refused, with a
-    hint."""
+    """The weights of a graph, none above `most`, and their largest rounding in its unit."""
     see_that_weights(name, weights)
     if weights.dtype == numpy.int64 and isinstance(scale, int | None):
         factor = 1 if scale is None else scale
@@ -232,33 +177,21 @@ def whole_weights(
     whole: NDArray[Any] = numpy.rint(scaled)
     see_that_small(name, weights, whole <= most)
     apart = abs(whole - scaled)
-    place = columns.first_of(apart > 0) if scale is None else None
-    if place is not None:
-        raise refused(name, place, f"{weights[place]} is not a whole number{hint}")
+    if scale is None:
+        refuse(name, apart > 0, lambda row: f"{weights[row]} is not a whole number{hint}")
     return whole.astype(numpy.int64), float(apart.max(initial=0))
 
 
 def see_that_weights(name: str, weights: NDArray[Any]) -> None:
     """Refuses the first weight that is below 0 or not finite."""
-    place = columns.first_of(~((weights >= 0) & (weights < numpy.inf)))
-    if place is not None:
-        raise refused(
-            name,
-            place,
-            f"{weights[place]} is {'below 0' if -numpy.inf < weights[place] < 0 else 'no weight'}",
-        )
+    refuse(name, ~((weights >= 0) & (weights < numpy.inf)), lambda row: (
+        f"{weights[row]} is {'below 0' if -numpy.inf < weights[row] < 0 else 'no weight'}"))
 
 
 def see_that_small(name: str, weights: NDArray[Any], is_small: Marks) -> None:
     """Refuses the first weight that is too large."""
-    place = columns.first_of(~is_small)
-    if place is not None:
-        raise refused(
-            name,
-            place,
-            f"{weights[place]} is too large: as in the graph, times the number of nodes, it is "
-            "more than 2^60",
-        )
+    text = "is too large: as in the graph, times the number of nodes, it is more than 2^60"
+    refuse(name, ~is_small, lambda row: f"{weights[row]} {text}")
 
 
 def places_in(given: Columns, count: int) -> tuple[Floats, Floats] | None:
@@ -268,8 +201,7 @@ def places_in(given: Columns, count: int) -> tuple[Floats, Floats] | None:
     for name, column in ("nodes", given.nodes), ("x", given.x), ("y", given.y):
         if column is None:
             raise DataFault(f"{name} is not given: `nodes`, `x` and `y` go together", name)
-    x, y = columns.degrees_in("x", cast("Column", given.x), 180), columns.degrees_in(
-        "y", cast("Column", given.y), 90
-    )
+    x = columns.degrees_in("x", cast("Column", given.x), 180)
+    y = columns.degrees_in("y", cast("Column", given.y), 90)
     columns.see_that_long(["nodes", "x", "y"], [range(count), x, y])
     return x, y

@@ -9,7 +9,7 @@ from __future__ import annotations
 import contextlib
 import datetime
 import reprlib
-from collections.abc import Iterable, Sequence, Sized
+from collections.abc import Callable, Iterable, Sequence, Sized
 from typing import TYPE_CHECKING, Any
 
 import numpy
@@ -27,6 +27,7 @@ MOST_BITS = 4_096
 # Up to this number each whole number is a float that is no other one's: 2^53 + 1 becomes 2^53.
 EXACT = 2**53 - 1
 INTEGERS, STRINGS, TUPLES = "integers", "strings", "tuples"
+NO_LABEL = "is no label; a label is an integer, a string or a tuple"
 
 
 def quoted(value: object) -> str:
@@ -47,9 +48,15 @@ def first_of(marks: ArrayLike) -> int | None:
     return place if marks.size and marks[place] else None
 
 
+def refuse(name: str, wrong: ArrayLike, text: Callable[[int], str]) -> None:
+    """Refuses the first row of a column that is marked as wrong, with a text about it."""
+    place = first_of(wrong)
+    if place is not None:
+        raise refused(name, place, text(place))
+
+
 def array_of(name: str, column: Column) -> NDArray[Any]:
-    """The array of a column. A list becomes an array of objects, so that numpy converts no value of
-    it."""
+    """The array of a column; that of a list has objects, so that numpy converts no value."""
     if isinstance(column, numpy.ma.MaskedArray):
         see_that_there(name, numpy.ma.getmaskarray(column), "is masked")
         column = column.data
@@ -89,10 +96,7 @@ def see_that_long(names: Sequence[str], columns: Sequence[Sized]) -> None:
             short, row = (name, count) if count < rows else (names[0], rows)
             raise DataFault(
                 f"{names[0]} has {rows:,} rows and {name} has {count:,}: row {row} of {short} is "
-                "missing",
-                short,
-                row,
-            )
+                "missing", short, row)
 
 
 # Labels.
@@ -104,38 +108,18 @@ def is_integer(kind: type) -> bool:
 
 def kind_of(kind: type) -> str | None:
     """The kind of labels that values of a type are; None if they are no labels."""
-    return (
-        STRINGS
-        if issubclass(kind, str)
-        else TUPLES
-        if issubclass(kind, tuple)
-        else INTEGERS
-        if is_integer(kind)
-        else None
-    )
+    if issubclass(kind, str | tuple):
+        return STRINGS if issubclass(kind, str) else TUPLES
+    return INTEGERS if is_integer(kind) else None
 
 
 def are_whole(column: NDArray[Any]) -> Marks:
-    """Which numbers of a column of floats are whole, and small enough that each whole number has
-    its own float."""
+    """Which floats are whole, and small enough to be no other whole number's float."""
     return (column == numpy.floor(column)) & (abs(column) <= EXACT)
 
 
 def labels_in(name: str, column: Column) -> LabelArray:
-    """The labels of a column, of any shape.
-
-    Returns
-    -------
-    array of int64 or object
-        Integers, as objects if one of them has more than 64 bits; or objects of `str`, or of
-        `tuple`.
-
-    Raises
-    ------
-    DataFault
-        A value is no label, such as 1.5 or NaN, or there are several kinds of labels. The message
-        names the first such value.
-    """
+    """The labels of a column of any shape: int64, or objects of one kind. Others are refused."""
     array = array_of(name, column)
     if array.size == 0:
         return array.astype(numpy.int64)
@@ -163,8 +147,7 @@ def labels_in(name: str, column: Column) -> LabelArray:
 
 
 def column_labels_in(name: str, column: Column) -> LabelArray:
-    """The labels of a single column, which may be tuples: a list of tuples is one column here, not
-    several."""
+    """The labels of a single column; a list of tuples is one column here, not several."""
     if isinstance(column, list | tuple) and isinstance(next(iter(column), None), tuple):
         return tuples_in(name, column)
     labels = labels_in(name, column)
@@ -173,74 +156,48 @@ def column_labels_in(name: str, column: Column) -> LabelArray:
 
 
 def tuples_in(name: str, column: Iterable[Any]) -> LabelArray:
-    """The labels of a column of tuples, objects. The parts of each are integers, strings or
-    floats."""
+    """The labels of a column of tuples, whose parts are integers, strings or floats."""
     values = list(column)
     see_that_labels(name, values)
+    def is_part(part: Any) -> bool:
+        return isinstance(part, str) or is_number(type(part)) and part == part
+
     for row, value in enumerate(values):
-        if not all(is_number(type(part)) or isinstance(part, str) for part in value) or any(
-            part != part for part in value
-        ):
-            raise refused(
-                name,
-                row,
-                f"{quoted(value)} is no label; the parts of a tuple are integers, floats and "
-                "strings",
-            )
-    return objects_of(
-        [
-            tuple(part.item() if isinstance(part, numpy.generic) else part for part in value)
-            for value in values
-        ]
-    )
+        if not all(map(is_part, value)):
+            text = "is no label; the parts of a tuple are integers, floats and strings"
+            raise refused(name, row, f"{quoted(value)} {text}")
+    return objects_of([
+        tuple(part.item() if isinstance(part, numpy.generic) else part for part in value)
+        for value in values])
 
 
 def whole_as_integer(value: Any) -> Any:
-    """A whole float as an integer, and any other value unchanged. Ids become floats in pandas if a
-    column ever lacked some of them."""
+    """A whole float as an integer, as ids are in pandas where a column ever lacked some."""
     is_float = isinstance(value, float | numpy.floating)
     return int(value) if is_float and float(value).is_integer() and abs(value) <= EXACT else value
 
 
 def no_label(name: str, array: NDArray[Any]) -> DataFault:
-    """The fault of an array that has no labels, about its first NaN, its first value that is not
-    whole, or its first value."""
-    place = None
-    if array.dtype.kind == "f":
-        place = first_of(numpy.isnan(array))
-        place = first_of(~are_whole(array)) if place is None else place
-    value = array.reshape(-1)[place or 0]
-    return refused(
-        name,
-        row_of(array, place or 0),
-        f"{quoted(value)} is no label; a label is an integer, a string or a tuple",
-    )
+    """The fault of the first NaN, the first value that is not whole, or the first value."""
+    is_float = array.dtype.kind == "f"
+    marks = (numpy.isnan(array), ~are_whole(array)) if is_float else ()
+    place = next((place for place in map(first_of, marks) if place is not None), 0)
+    return refused(name, row_of(array, place), f"{quoted(array.reshape(-1)[place])} {NO_LABEL}")
 
 
 def see_that_labels(name: str, values: Sequence[object], width: int = 1) -> set[type]:
-    """The types of a list of labels, `width` of which are in a row. Refuses the first value that is
-    no label, or of another kind."""
+    """The types of labels, `width` in a row. Refuses the first that is none, or of another kind."""
     types = set(map(type, values))
     kinds = set(map(kind_of, types))
     if len(kinds) < 2 and None not in kinds:
         return types
     first = kind_of(type(values[0]))
-    place = (
-        0
-        if first is None
-        else next(place for place, value in enumerate(values) if kind_of(type(value)) != first)
-    )
+    others = (place for place, value in enumerate(values) if kind_of(type(value)) != first)
+    place = 0 if first is None else next(others)
+    text = f"the label {quoted(values[place])} is not one of {first}, as those before it"
     if kind_of(type(values[place])) is None:
-        raise refused(
-            name,
-            place // width,
-            f"{quoted(values[place])} is no label; a label is an integer, a string or a tuple",
-        )
-    raise refused(
-        name,
-        place // width,
-        f"the label {quoted(values[place])} is not one of {first}, as those before it",
-    )
+        text = f"{quoted(values[place])} {NO_LABEL}"
+    raise refused(name, place // width, text)
 
 
 def objects_like(array: NDArray[Any], values: Iterable[object]) -> LabelArray:
@@ -260,21 +217,15 @@ def objects_of(values: Sequence[Any]) -> LabelArray:
 
 
 def integers_like(name: str, array: NDArray[Any], values: Iterable[Any]) -> LabelArray:
-    """Integers in the shape of an array, as int64 if all of them fit. Refuses integers of too many
-    bits."""
+    """Integers in the shape of an array, int64 if all fit. Those of too many bits are refused."""
     # Converted to Python's integers, because numpy would convert numbers past 2^63 to others.
     values = list(map(int, values))
     with contextlib.suppress(OverflowError):
         return numpy.array(values, numpy.int64).reshape(array.shape)
-    place = next(
-        (place for place, value in enumerate(values) if value.bit_length() > MOST_BITS), None
-    )
-    if place is not None:
-        raise refused(
-            name,
-            row_of(array, place),
-            f"{quoted(values[place])} is no label; one has at most {MOST_BITS:,} bits",
-        )
+    large = first_of([value.bit_length() > MOST_BITS for value in values])
+    if large is not None:
+        text = f"{quoted(values[large])} is no label; one has at most {MOST_BITS:,} bits"
+        raise refused(name, row_of(array, large), text)
     return objects_like(array, values)
 
 
@@ -282,19 +233,12 @@ def integers_like(name: str, array: NDArray[Any], values: Iterable[Any]) -> Labe
 
 
 def durations_in(name: str, column: Column) -> Any:
-    """The milliseconds of a column of durations, as `numpy.longdouble`; None for any other
-    column."""
-    array = array_of(name, column)
-    if (
-        array.dtype == object
-        and array.ndim == 1
-        and array.size
-        and isinstance(array[0], datetime.timedelta | numpy.timedelta64)
-    ):
+    """The milliseconds of a column of durations, `numpy.longdouble`; None for any other."""
+    array, durations = array_of(name, column), (datetime.timedelta, numpy.timedelta64)
+    is_column = array.dtype == object and array.ndim == 1 and array.size
+    if is_column and isinstance(array[0], durations):
         for row, value in enumerate(array.tolist()):
-            if not isinstance(value, datetime.timedelta | numpy.timedelta64 | int) or isinstance(
-                value, bool
-            ):
+            if not isinstance(value, (*durations, int)) or isinstance(value, bool):
                 raise refused(name, row, f"{quoted(value)} is no duration, as those before it")
         array = numpy.array([numpy.timedelta64(value) for value in array], "timedelta64[ns]")
     if array.dtype.kind != "m":
@@ -305,19 +249,12 @@ def durations_in(name: str, column: Column) -> Any:
 
 
 def numbers_in(name: str, column: Column, with_booleans: bool = False) -> NDArray[Any]:
-    """The numbers of a column: int64 or `numpy.longdouble`. `with_booleans` takes True and False as
-    1 and 0.
-
-    On most machines a `longdouble` holds each whole number of 64 bits, and the product of a float
-    and a thousand.
-    """
+    """The numbers of a column, perhaps with booleans as 1 and 0: int64 or `numpy.longdouble`."""
+    # A `longdouble` mostly holds each whole number of 64 bits, and a float times a thousand.
     array = array_of(name, column)
     see_that_flat(name, array)
-    if with_booleans and (
-        array.dtype == bool or array.dtype == object and {*map(type, array)} <= {bool, numpy.bool_}
-    ):
-        return array.astype(numpy.int64)
-    if array.size == 0:
+    are_booleans = {*map(type, array)} <= {bool, numpy.bool_} if array.dtype == object else False
+    if array.size == 0 or with_booleans and (array.dtype == bool or are_booleans):
         return array.astype(numpy.int64)
     if array.dtype.kind == "O":
         return numbers_of_objects(name, array.tolist())
@@ -325,9 +262,8 @@ def numbers_in(name: str, column: Column, with_booleans: bool = False) -> NDArra
         raise refused(name, 0, f"{quoted(array[0])} is neither an integer nor a float")
     if array.dtype.kind == "f":
         return array.astype(numpy.longdouble)
-    place = first_of(array > numpy.uint64(GREATEST)) if array.dtype.kind == "u" else None
-    if place is not None:
-        raise refused(name, place, f"{array[place]} is too large")
+    if array.dtype.kind == "u":
+        refuse(name, array > numpy.uint64(GREATEST), lambda row: f"{array[row]} is too large")
     return array.astype(numpy.int64)
 
 
@@ -336,32 +272,16 @@ def numbers_of_objects(name: str, values: Sequence[Any]) -> NDArray[Any]:
     kinds = set(map(type, values))
     if not all(map(is_number, kinds)):
         place = next(place for place, value in enumerate(values) if not is_number(type(value)))
-        raise refused(
-            name,
-            place,
-            "there is none"
-            if values[place] is None
-            else f"{quoted(values[place])} is neither an integer nor a float",
-        )
+        text = f"{quoted(values[place])} is neither an integer nor a float"
+        raise refused(name, place, "there is none" if values[place] is None else text)
     if kinds == {float}:
         return numpy.array(values).astype(numpy.longdouble)
     if all(map(is_integer, kinds)):
         with contextlib.suppress(OverflowError):
             return numpy.array([*map(int, values)], numpy.int64)
-    large = next(
-        (
-            place
-            for place, value in enumerate(values)
-            if is_integer(type(value)) and not LEAST <= int(value) <= GREATEST
-        ),
-        None,
-    )
-    if large is not None:
-        raise refused(
-            name,
-            large,
-            f"{quoted(values[large])} is {'too large' if values[large] > 0 else 'below 0'}",
-        )
+    is_large = [is_integer(type(each)) and not LEAST <= int(each) <= GREATEST for each in values]
+    refuse(name, is_large, lambda row: (
+        f"{quoted(values[row])} is {'too large' if values[row] > 0 else 'below 0'}"))
     return numpy.array([*map(numpy.longdouble, values)], numpy.longdouble)
 
 
@@ -373,7 +293,6 @@ def degrees_in(name: str, column: Column, most: int) -> Floats:
     """The degrees of a column, or of a single number, from -`most` to `most`, float64."""
     values: Any = [column] if numpy.ndim(column) == 0 else column
     degrees = numbers_in(name, values).astype(float)
-    place = first_of(~(abs(degrees) <= most))
-    if place is not None:
-        raise refused(name, place, f"{degrees[place]:.12g} is not from -{most} to {most} degrees")
+    refuse(name, ~(abs(degrees) <= most), lambda row: (
+        f"{degrees[row]:.12g} is not from -{most} to {most} degrees"))
     return degrees

@@ -1,4 +1,5 @@
-"""The lines of arcs as callers give them, such as those of shapely, and the points between their ends."""
+"""The lines of arcs as callers give them, such as those of shapely, and the points between their
+ends."""
 from __future__ import annotations
 
 from collections.abc import Sequence
@@ -19,10 +20,7 @@ Line: TypeAlias = "Floats"
 
 
 def lines_in(name: str, column: Any, rows: int) -> list[Line | None] | None:
-    """The lines of a column, each as an array of at least two longitudes and latitudes (n, 2), or None; None if there is no column.
-
-    A line is one of shapely, or a list of pairs. Further numbers of a point, such as heights, are ignored.
-    """
+    """The lines of a column, arrays (n, 2) of places in degrees or None; None for no column."""
     if column is None:
         return None
     given = list(column)
@@ -38,17 +36,21 @@ def line_in(name: str, row: int, line: Any) -> Line | None:
         return None
     kind = getattr(line, "geom_type", "LineString")
     if kind != "LineString":
-        raise refused(name, row, f"a {kind} is no line; `explode()` of geopandas makes lines of lines of several parts")
+        text = "is no line; `explode()` of geopandas makes lines of lines of several parts"
+        raise refused(name, row, f"a {kind} {text}")
     try:
         places = numpy.array(list(getattr(line, "coords", line)), float)[:, :2]
     except (TypeError, ValueError, IndexError):
         raise refused(name, row, f"{quoted(line)} is no line of longitudes and latitudes") from None
     if len(places) < 2 or not (abs(places) <= (180, 90)).all():
-        raise refused(name, row, "a line has two points or more, of longitudes from -180 to 180 and latitudes from -90 to 90 degrees")
+        text = "a line has two points or more, of longitudes from -180 to 180 and latitudes from"
+        raise refused(name, row, f"{text} -90 to 90 degrees")
     return places
 
 
-def ends_of(lines: Sequence[Line | None], tails: Integers, heads: Integers, labels: Labels) -> tuple[Floats, Floats]:
+def ends_of(
+    lines: Sequence[Line | None], tails: Integers, heads: Integers, labels: Labels,
+) -> tuple[Floats, Floats]:
     """The longitudes and latitudes of all nodes, from the ends of the lines at them."""
     places = numpy.full((len(labels.values), 2), numpy.nan)
     for line, tail, head in zip(lines, tails.tolist(), heads.tolist()):
@@ -57,15 +59,19 @@ def ends_of(lines: Sequence[Line | None], tails: Integers, heads: Integers, labe
     lacking = numpy.flatnonzero(numpy.isnan(places[:, 0]))
     if len(lacking):
         label = labels.values[lacking[:1]].tolist()[0]
-        raise DataFault(f"no line leads to the node {quoted(label)}, so that it has no place: give `nodes`, `x` and `y`", "geometry")
+        text = f"no line leads to the node {quoted(label)}, so that it has no place"
+        raise DataFault(f"{text}: give `nodes`, `x` and `y`", "geometry")
     return places[:, 0], places[:, 1]
 
 
-def bends_of(lines: Sequence[Line | None], tails: Integers, heads: Integers, places: tuple[Floats, Floats] | None) -> dict[int, list[Point]]:
-    """The points between the ends of each arc, if its line has some: {arc: [(longitude, latitude), ..]}. A line that leads from the head of its arc
-    to the tail is reversed."""
+def bends_of(
+    lines: Sequence[Line | None], tails: Integers, heads: Integers,
+    places: tuple[Floats, Floats] | None,
+) -> dict[int, list[Point]]:
+    """The points between the ends of each arc that has some; its line may lead the other way."""
     if places is None:
-        raise DataFault("geometry is given and places are not: `nodes`, `x` and `y` are needed too", "geometry")
+        raise DataFault(
+            "geometry is given and places are not: `nodes`, `x` and `y` are needed too", "geometry")
     bends = {}
     for arc, line in enumerate(lines):
         if line is not None and len(line) > 2:

@@ -1,4 +1,5 @@
-"""Parts of files of all kinds: paths and open files, columns of numbers, comments, and lines that are written many at a time."""
+"""Parts of files of all kinds: paths and open files, columns of numbers, comments, and lines that
+are written many at a time."""
 from __future__ import annotations
 
 import array
@@ -21,8 +22,10 @@ COLUMNS_AT_ONCE = 1 << 16
 
 @contextlib.contextmanager
 def reading(source: Source, mode: str = "r") -> Iterator[Any]:
-    """Opens the file of a path, or takes an open file or lines as they are. Bytes that are no text are a fault of the file."""
-    opened: Any = open(source, mode) if isinstance(source, (str, os.PathLike)) else contextlib.nullcontext(source)
+    """Opens the file of a path, or takes an open file or lines. A fault if these are no text."""
+    opened: Any = contextlib.nullcontext(source)
+    if isinstance(source, str | os.PathLike):
+        opened = open(source, mode)
     with opened as file:
         try:
             yield file
@@ -33,8 +36,10 @@ def reading(source: Source, mode: str = "r") -> Iterator[Any]:
 @contextlib.contextmanager
 def writing(target: Target, mode: str = "w") -> Iterator[IO[Any]]:
     """Takes an open file as it is, or makes the file of a path anew."""
-    opened: Any = contextlib.nullcontext(target) if hasattr(target, "write") else open(cast("Path", target), mode)
-    with opened as file:
+    if hasattr(target, "write"):
+        yield cast(IO[Any], target)
+        return
+    with open(cast("Path", target), mode) as file:
         yield file
 
 
@@ -42,8 +47,10 @@ def name_of(source: Source) -> str:
     return str(getattr(source, "name", source))
 
 
-def columns(source: Source, letter: bytes, count: int) -> tuple[list[array.array[int]], list[bytes]]:
-    """The `count` columns of numbers in all lines that start with a letter; and the comments and problem lines, as bytes."""
+def columns(
+    source: Source, letter: bytes, count: int,
+) -> tuple[list[array.array[int]], list[bytes]]:
+    """The columns of numbers in lines that start with a letter; comments and problem lines."""
     heads: list[bytes] = []
 
     def items(file: Iterable[bytes]) -> Iterator[bytes]:
@@ -51,7 +58,8 @@ def columns(source: Source, letter: bytes, count: int) -> tuple[list[array.array
             words = line.split()
             if words[:1] == [letter]:
                 if len(words) != count + 1:
-                    raise FileFault(f"{name_of(source)} line {number}: not `{letter.decode()}` and {count} number{'s' * (count > 1)}")
+                    wanted = f"`{letter.decode()}` and {count} number{'s' * (count > 1)}"
+                    raise FileFault(f"{name_of(source)} line {number}: not {wanted}")
                 yield from words[1:]
             elif line[:1] in (b"c", b"p"):
                 heads.append(line)
@@ -61,9 +69,18 @@ def columns(source: Source, letter: bytes, count: int) -> tuple[list[array.array
             numbers = array.array("q", map(int, items(file)))
         except OverflowError:
             raise FileFault(f"{name_of(source)}: a number is too large") from None
+        except FileFault:
+            raise
         except ValueError as fault:
-            raise fault if isinstance(fault, FileFault) else FileFault(f"{name_of(source)}: {fault}") from None
+            raise FileFault(f"{name_of(source)}: {fault}") from None
     return [numbers[place::count] for place in range(count)], heads
+
+
+def see_that_of_graph(source: Source, what: str, own: int, arcs: int) -> None:
+    """Refuses a file for another number of arcs than those of a graph."""
+    if own != arcs:
+        text = f"{what} of {own:,} arcs, where the graph has {arcs:,}"
+        raise FileFault(f"{name_of(source)}: {text}: they are those of another graph")
 
 
 def comments_of(heads: Iterable[bytes]) -> list[str]:
@@ -75,21 +92,23 @@ def write_comments(file: IO[str], comments: Iterable[str]) -> None:
 
 
 def write_rows(file: IO[str], form: str, rows: Iterable[Iterable[Any]]) -> None:
-    """Writes a line of this form for each row of numbers. Formatting many lines at a time takes half as long."""
+    """Writes a line of this form for each row of numbers, many at a time."""
     rows = iter(rows)
     while some := list(itertools.islice(rows, ROWS_AT_ONCE)):
         file.write(form * len(some) % tuple(itertools.chain.from_iterable(some)))
 
 
 def write_columns(file: IO[str], form: str, numbers: Sequence[Any]) -> None:
-    """Writes a line of this form for each row of columns, which are arrays of whole numbers. They become lists part by part."""
+    """Writes a line of this form for each row of columns, which become lists part by part."""
     for start in range(0, len(numbers[0]), COLUMNS_AT_ONCE):
-        write_rows(file, form, zip(*(column[start:start + COLUMNS_AT_ONCE].tolist() for column in numbers)))
+        some = slice(start, start + COLUMNS_AT_ONCE)
+        write_rows(file, form, zip(*(column[some].tolist() for column in numbers)))
 
 
 @contextlib.contextmanager
 def whole(path: str) -> Iterator[str]:
-    """Lends a path beside this one. The file there gets the final name if it was written without an error, and is removed otherwise.
+    """Lends a path beside this one. The file there gets the final name if it was written without an
+    error, and is removed otherwise.
 
     Parameters
     ----------

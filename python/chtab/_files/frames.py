@@ -16,36 +16,23 @@ WAYS = "osmid"
 
 
 def ways_in(column: Iterable[Any]) -> list[list[int]] | None:
-    """The numbers of the ways of each edge; None unless each edge has a number or a list of
-    numbers."""
-    ways = [
-        list(way) if isinstance(way, list | tuple | set | numpy.ndarray) else [way]
-        for way in column
-    ]
-    if not all(
-        columns.is_integer(kind) for kind in {type(number) for way in ways for number in way}
-    ):
-        return None
-    return [list(map(int, way)) for way in ways]
+    """The ways of each edge; None unless each has a number or a list of numbers."""
+    kinds = list, tuple, set, numpy.ndarray
+    ways = [list(way) if isinstance(way, kinds) else [way] for way in column]
+    are_numbers = all(map(columns.is_integer, {type(number) for way in ways for number in way}))
+    return [list(map(int, way)) for way in ways] if are_numbers else None
 
 
 def column_of(frame: Any, name: str) -> Any:
     """The column of a frame, or the level of its index, with a name."""
     if name in frame.columns:
         return frame[name]
-    if name in getattr(getattr(frame, "index", None), "names", ()):
+    levels = getattr(getattr(frame, "index", None), "names", ())
+    if name in levels:
         return frame.index.get_level_values(name)
-    known = ", ".join(
-        map(
-            repr,
-            [*frame.columns, *filter(None, getattr(getattr(frame, "index", None), "names", ()))],
-        )
-    )
-    raise DataFault(
-        f"the frame has no column {name!r}; it has {known}; reset_index() makes columns of an "
-        "index without a name",
-        str(name),
-    )
+    known = ", ".join(map(repr, [*frame.columns, *filter(None, levels)]))
+    text = f"the frame has no column {name!r}; it has {known}; reset_index() makes columns of an"
+    raise DataFault(f"{text} index without a name", str(name))
 
 
 def columns_of_frame(
@@ -54,8 +41,7 @@ def columns_of_frame(
     """The columns with these names, and further ones of `arc_columns.Columns`."""
     if not hasattr(frame, "columns"):
         raise TypeError(
-            f"the frame is a DataFrame, as pandas.read_csv reads one, not {quoted(frame)}"
-        )
+            f"the frame is a DataFrame, as pandas.read_csv reads one, not {quoted(frame)}")
     lines = None if geometry is None else column_of(frame, geometry)
     sources, targets, weights = (column_of(frame, name) for name in names)
     index = getattr(frame, "index", None)
@@ -65,8 +51,7 @@ def columns_of_frame(
 
 
 def marks_of(frame: Any, both_ways: Any) -> Any:
-    """The marks of rows that lead both ways, for a truth value or a column of a frame, or the name
-    of this column."""
+    """The marks of rows that lead both ways, in a column of the frame or by its name."""
     column = column_of(frame, both_ways) if isinstance(both_ways, str) else both_ways
     if row_index.index_of(column) is not None:
         _, column = row_index.matched(("the frame", "both_ways"), (frame, column))
@@ -74,24 +59,16 @@ def marks_of(frame: Any, both_ways: Any) -> Any:
 
 
 def arcs_of_networkx(
-    graph: Any,
-    weight: str,
-    scale: float | str | None,
-    unit: str | None,
-    places: tuple[str | None, str | None],
-    geometry: str | None,
+    graph: Any, weight: str, scale: float | str | None, unit: str | None,
+    places: tuple[str | None, str | None], geometry: str | None,
 ) -> arc_columns.Arcs:
-    """The arcs of a graph, with the weights of an attribute of its edges, and with places and lines
-    if its nodes and edges have them."""
+    """The arcs of a graph by the attributes of its edges, and places and lines if it has some."""
     nodes, edges = list(graph.nodes), list(graph.edges(data=weight))
     columns.see_that_labels("nodes", list(map(columns.whole_as_integer, nodes)))
     sources, targets, weights = (list(column) for column in zip(*edges)) if edges else ([], [], [])
     x, y = places_of(graph, nodes, places)
-    lines = (
-        None
-        if geometry is None or x is None
-        else [line for _, _, line in graph.edges(data=geometry)]
-    )
+    has_lines = geometry is not None and x is not None
+    lines = [line for _, _, line in graph.edges(data=geometry)] if has_lines else None
     # Without a unit these are the seconds and metres of osmnx, in thousandths.
     own = 1000 if unit is None else None
     if not isinstance(scale, str) or scale != "auto":
@@ -101,20 +78,8 @@ def arcs_of_networkx(
     keys = known if known and all(type(key) in (int, str) for key in known) else None
     ways = ways_in(way for _, _, way in graph.edges(data=WAYS))
     given = arc_columns.Columns(
-        sources,
-        targets,
-        weights,
-        nodes,
-        x,
-        y,
-        own,
-        unit,
-        not graph.is_directed(),
-        lines,
-        names,
-        keys,
-        ways,
-    )
+        sources, targets, weights, nodes, x, y, own, unit, not graph.is_directed(), lines, names,
+        keys, ways)
     try:
         return arc_columns.arcs_of(given)
     except DataFault as fault:
@@ -140,14 +105,8 @@ def located(fault: DataFault, graph: Any, nodes: Sequence[Any], edges: Sequence[
         where = f"node {quoted(nodes[fault.row])}"
     else:
         where = "the edge from {} to {}".format(*map(quoted, edges[fault.row][:2]))
-    hint = ""
-    if (
-        fault.column in ("x", "y", "geometry")
-        and "crs" in graph.graph
-        and "4326" not in str(graph.graph["crs"])
-    ):
-        hint = (
-            f"; the graph's places are of {graph.graph['crs']}: `osmnx.project_graph(graph, "
-            "to_crs=4326)` gives degrees"
-        )
+    crs, hint = str(graph.graph.get("crs", "4326")), ""
+    if fault.column in ("x", "y", "geometry") and "4326" not in crs:
+        hint = f"; the graph's places are of {crs}: `osmnx.project_graph(graph, to_crs=4326)` gives"
+        hint += " degrees"
     return DataFault(f"{fault}, of {where}{hint}", fault.column, fault.row)

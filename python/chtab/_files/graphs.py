@@ -10,15 +10,7 @@ from typing import TYPE_CHECKING, Any, NamedTuple
 
 from chtab.errors import FileFault
 from chtab._files.forms import (
-    ROWS_AT_ONCE,
-    columns,
-    comments_of,
-    name_of,
-    write_columns,
-    write_comments,
-    write_rows,
-    writing,
-)
+    ROWS_AT_ONCE, columns, comments_of, name_of, write_columns, write_comments, write_rows, writing)
 
 if TYPE_CHECKING:
     from chtab.typing import Path, Point, Source, Target
@@ -67,25 +59,21 @@ class Coordinates(NamedTuple):
     def ends(self) -> dict[int, int]:
         """The nodes where trips end whose target is a node with restricted turns: {target: node}.
         All other trips end at their target."""
-        return {
-            int(found[1]): int(found[2]) for found in map(END.fullmatch, self.comments) if found
-        }
+        return self.pairs(END)
 
     def copies(self) -> dict[int, int]:
         """The copies of nodes with restricted turns, those where trips end among them: {copy:
         node}."""
-        found = {
-            int(found[1]): int(found[2]) for found in map(COPY.fullmatch, self.comments) if found
-        }
-        return found | {end: node for node, end in self.ends().items()}
+        return self.pairs(COPY) | {end: node for node, end in self.ends().items()}
+
+    def pairs(self, form: re.Pattern[str]) -> dict[int, int]:
+        """The pairs of nodes in comments of a form."""
+        matches = map(form.fullmatch, self.comments)
+        return {int(found[1]): int(found[2]) for found in matches if found}
 
     def turns(self) -> list[str]:
         """The comments from which `ends` and `copies` are read."""
-        return [
-            comment
-            for comment in self.comments
-            if END.fullmatch(comment) or COPY.fullmatch(comment)
-        ]
+        return [each for each in self.comments if END.fullmatch(each) or COPY.fullmatch(each)]
 
     def known(self) -> list[int]:
         """The nodes that have a place, in order."""
@@ -96,8 +84,7 @@ def are_equal(one: tuple[Any, ...], other: tuple[Any, ...]) -> bool:
     """Whether the parts of two tuples are equal, among which there may be arrays of any kind."""
     return all(
         list(part) == list(its) if hasattr(part, "tolist") else part == its
-        for part, its in zip(one, other)
-    )
+        for part, its in zip(one, other))
 
 
 def read_graph(source: Source) -> Graph:
@@ -128,9 +115,7 @@ def read_graph(source: Source) -> Graph:
     if problem[:2] != [b"p", b"sp"] or len(problem) != 4 or not problem[2].isdigit():
         raise FileFault(f"{name_of(source)}: not a graph, whose problem line is `p sp N M`")
     nodes = int(problem[2])
-    if len(tails) and not (
-        1 <= min(min(tails), min(heads)) and max(max(tails), max(heads)) <= nodes
-    ):
+    if len(tails) and (min(min(tails), min(heads)) < 1 or max(max(tails), max(heads)) > nodes):
         raise FileFault(f"{name_of(source)}: an arc has a node that is not from 1 to {nodes}")
     return Graph(nodes, tails, heads, weights, unit_of(lines))
 
@@ -159,12 +144,9 @@ def read_unit(path: Path) -> str:
 
 def unit_of(lines: Iterable[bytes]) -> str:
     """The unit that comments among some lines name; empty if none does."""
-    told = [
-        comment.split()[-1].strip(".")
-        for comment in comments_of(lines)
-        if comment.startswith("Weights are ")
-    ]
-    return told[0] if told and told[0] in UNITS else ""
+    comments = (each for each in comments_of(lines) if each.startswith("Weights are "))
+    unit = next(comments, ".").split()[-1].strip(".")
+    return unit if unit in UNITS else ""
 
 
 def count_arcs(path: Path) -> int:
@@ -214,22 +196,15 @@ def counts_in(path: Path) -> tuple[int, int]:
     with open(path, "rb") as file:
         for line in file:
             words = line.split()
-            if (
-                words[:2] == [b"p", b"sp"]
-                and len(words) == 4
-                and words[2].isdigit()
-                and words[3].isdigit()
-            ):
-                return int(words[2]), int(words[3])
+            counts = [int(word) for word in words[2:] if word.isdigit()]
+            if words[:2] == [b"p", b"sp"] and len(words) == 4 and len(counts) == 2:
+                return counts[0], counts[1]
     raise FileFault(f"{path}: not a graph, whose problem line is `p sp N M`")
 
 
 def write_graph(
-    target: Target,
-    nodes: int,
-    arcs: Sequence[tuple[int, int, float]],
-    comments: Iterable[str] = (),
-    scale: float | None = None,
+    target: Target, nodes: int, arcs: Sequence[tuple[int, int, float]],
+    comments: Iterable[str] = (), scale: float | None = None,
 ) -> None:
     """Writes a graph (`.gr`).
 
@@ -256,8 +231,7 @@ def write_graph(
         comments = [*comments, scale_comment(scale)]
         arcs = [
             (tail, head, scaled(place, weight, scale))
-            for place, (tail, head, weight) in enumerate(arcs)
-        ]
+            for place, (tail, head, weight) in enumerate(arcs)]
     see_that_whole(arcs)
     with writing(target) as file:
         write_comments(file, comments)
@@ -358,10 +332,8 @@ def read_turns(path: Path) -> Coordinates:
     """
     with open(path, "rb") as file:
         return Coordinates(
-            array.array("d"),
-            array.array("d"),
-            comments_of(itertools.takewhile(lambda line: line[:1] != b"v", file)),
-        )
+            array.array("d"), array.array("d"),
+            comments_of(itertools.takewhile(lambda line: line[:1] != b"v", file)))
 
 
 def scaled(place: int, weight: float, scale: float) -> int:
@@ -384,8 +356,7 @@ def see_that_whole(arcs: Sequence[tuple[int, int, float]]) -> None:
                 if not is_whole(value):
                     raise FileFault(
                         f"arcs[{place}]: {value} is not a whole number; `scale` multiplies weights "
-                        "and rounds them"
-                    )
+                        "and rounds them")
 
 
 def is_whole(value: Any) -> bool:
@@ -396,11 +367,8 @@ def is_whole(value: Any) -> bool:
 
 
 def write_coordinates(
-    target: Target,
-    places: Sequence[Point],
-    comments: Iterable[str] = (),
-    ends: Iterable[tuple[int, int]] = (),
-    copies: Iterable[tuple[int, int]] = (),
+    target: Target, places: Sequence[Point], comments: Iterable[str] = (),
+    ends: Iterable[tuple[int, int]] = (), copies: Iterable[tuple[int, int]] = (),
 ) -> None:
     """Writes the nodes' places (`.co`).
 
@@ -427,14 +395,11 @@ def write_coordinates(
         write_comments(file, (f"Trips to node {node} end at node {end}." for node, end in ends))
         write_comments(
             file,
-            (f"Node {copy} is node {node}, as some turns come to it." for copy, node in copies),
-        )
+            (f"Node {copy} is node {node}, as some turns come to it." for copy, node in copies))
         file.write(f"p aux sp co {len(places)}\n")
         write_rows(
-            file,
-            "v %d %d %d\n",
-            ((node, round(x * 1e6), round(y * 1e6)) for node, (x, y) in enumerate(places, 1)),
-        )
+            file, "v %d %d %d\n",
+            ((node, round(x * 1e6), round(y * 1e6)) for node, (x, y) in enumerate(places, 1)))
 
 
 def write_coordinate_columns(
@@ -461,8 +426,7 @@ def write_coordinate_columns(
         write_comments(file, comments)
         file.write(f"p aux sp co {count}\n")
         write_columns(
-            file, "v %d %d %d\n", [array.array("q", range(1, count + 1)), *columns_of_places]
-        )
+            file, "v %d %d %d\n", [array.array("q", range(1, count + 1)), *columns_of_places])
 
 
 def read_bends(source: Source) -> dict[int, list[Point]]:
@@ -516,5 +480,4 @@ def write_bends(
         file.write(f"p aux sp bends {sum(map(len, bends.values()))}\n")
         points = ((arc + 1, *place) for arc, places in sorted(bends.items()) for place in places)
         write_rows(
-            file, "b %d %d %d\n", ((arc, round(x * 1e6), round(y * 1e6)) for arc, x, y in points)
-        )
+            file, "b %d %d %d\n", ((arc, round(x * 1e6), round(y * 1e6)) for arc, x, y in points))

@@ -32,8 +32,8 @@ class Place(NamedTuple):
 def read_names(source: Source) -> dict[int, str]:
     """Reads the names of nodes.
 
-    In a `.nodes` file, line k is the name of node k. In a list or a query file of the command `nearest`, the name is that of the place; a node of
-    several places has all of their names.
+    In a `.nodes` file, line k is the name of node k. In a list or a query file of the command
+    `nearest`, the name is that of the place; a node of several places has all of their names.
 
     Parameters
     ----------
@@ -100,7 +100,9 @@ def read_queries(source: Source) -> list[array.array[int]]:
     return columns(source, b"q", 2)[0]
 
 
-def write_queries(target: Target, pairs: Sequence[tuple[int, int]], notes: Iterable[Iterable[str]] | None = None) -> None:
+def write_queries(
+    target: Target, pairs: Sequence[tuple[int, int]], notes: Iterable[Iterable[str]] | None = None,
+) -> None:
     """Writes queries in order (`.p2p`).
 
     Parameters
@@ -145,7 +147,9 @@ def read_list(source: Source) -> array.array[int]:
     return columns(source, b"s", 1)[0][0]
 
 
-def write_list(target: Target, nodes: Sequence[int], notes: Iterable[str | None] | None = None) -> None:
+def write_list(
+    target: Target, nodes: Sequence[int], notes: Iterable[str | None] | None = None,
+) -> None:
     """Writes a list of nodes (`.ss`).
 
     Parameters
@@ -190,7 +194,8 @@ def write_list_column(target: Target, nodes: Any) -> None:
 
 
 def read_places(source: Source) -> Iterator[Place]:
-    """Reads places, each line with a longitude, a latitude and a name. Empty lines, and lines that start with #, are ignored.
+    """Reads places, each line with a longitude, a latitude and a name. Empty lines, and lines that
+    start with #, are ignored.
 
     Parameters
     ----------
@@ -222,5 +227,7 @@ def read_places(source: Source) -> Iterator[Place]:
             except ValueError:
                 raise FileFault(f"line {number}: not a longitude and a latitude") from None
             if not (-180 <= longitude <= 180 and -90 <= latitude <= 90):
-                raise FileFault(f"line {number}: longitude from -180 to 180 comes first, then latitude from -90 to 90")
+                raise FileFault(
+                    f"line {number}: longitude from -180 to 180 comes first, then latitude from "
+                    "-90 to 90")
             yield Place(longitude, latitude, " ".join(words[2:]).strip())

@@ -52,16 +52,7 @@ class Asked:
 
 @dataclass(frozen=True)
 class Measure:
-    """The unit of the answers and limits of a network.
-
-    Parameters
-    ----------
-    unit : str
-        The name of the unit; empty if it isn't known.
-    factor : int or float
-        How many of the graph's weights make one of the unit. With 1 answers are whole numbers, and
-        otherwise floats.
-    """
+    """The unit of answers and limits: `factor` of the graph's weights make one `unit`."""
 
     unit: str = ""
     factor: float = 1
@@ -74,19 +65,15 @@ class Measure:
     # Limits.
 
     def limit(self, name: str, given: Limit) -> int | None:
-        """The largest weight of the graph whose answer is at most a limit; None for no limit, which
-        infinity is too."""
+        """The largest weight of the graph whose answer is within a limit; None for no limit."""
         if given is None or isinstance(given, float | numpy.floating) and given == numpy.inf:
             return None
         if self.is_whole:
             return whole_limit(name, self.number(name, given))
-        value = float(self.number(name, given))
-        most = MOST / self.factor
+        value, most = float(self.number(name, given)), MOST / self.factor
         if not 0 <= value <= most:
-            raise ValueError(
-                f"{name} is {given!r}: a limit is from 0 to "
-                f"{most:g}{' ' * bool(self.unit)}{self.unit}"
-            )
+            text = f"{name} is {given!r}: a limit is from 0 to {most:g} {self.unit}"
+            raise ValueError(text.rstrip())
         weight = math.floor(Fraction(value) * Fraction(self.factor))
         while weight < EXACT and (weight + 1) / self.factor <= value:
             weight += 1
@@ -98,47 +85,29 @@ class Measure:
         """A limit as a number of this unit."""
         if isinstance(given, datetime.timedelta | numpy.timedelta64):
             if self.unit not in TIMES:
-                raise TypeError(
-                    f"{name} is a duration, and the network's unit is {self.unit or 'not known'}: "
-                    f"{', '.join(TIMES)} are units of time"
-                )
+                text = f"{name} is a duration, and the network's unit is {self.unit or 'not known'}"
+                raise TypeError(f"{text}: {', '.join(TIMES)} are units of time")
             return Fraction(microseconds(given), 1_000 * TIMES[self.unit])
-        if isinstance(given, bool | numpy.bool_) or not isinstance(
-            given, numbers.Real | decimal.Decimal | numpy.integer | numpy.floating
-        ):
+        kinds = numbers.Real, decimal.Decimal, numpy.integer, numpy.floating
+        if isinstance(given, bool) or not isinstance(given, kinds):
             raise TypeError(f"{name} is a number, not {given!r}")
         return given
 
     # Answers.
 
     def in_unit(self, weights: Integers, missing: float | None = None) -> Weights:
-        """The answers of weights, an array of int64 with -1 where there is no walk. They have
-        `missing` there, by default -1 if answers are whole, and otherwise NaN.
-        """
+        """The answers of weights, with `missing` in place of -1, by default -1 or NaN."""
         if missing is None and self.is_whole:
             return weights
-        is_missing = weights < 0
-        if (
-            self.is_whole
-            and isinstance(missing, int | numpy.integer)
-            and not isinstance(missing, bool)
-        ):
-            return numpy.where(is_missing, numpy.int64(missing), weights)
-        return numpy.where(
-            is_missing, numpy.nan if missing is None else float(missing), weights / self.factor
-        )
+        is_integer = isinstance(missing, int | numpy.integer) and not isinstance(missing, bool)
+        if missing is not None and self.is_whole and is_integer:
+            return numpy.where(weights < 0, numpy.int64(missing), weights)
+        own = numpy.nan if missing is None else float(missing)
+        return numpy.where(weights < 0, own, weights / self.factor)
 
     def one(self, weight: float | None) -> float | None:
         """The answer of one weight; None for None."""
         return weight if weight is None or self.is_whole else weight / self.factor
-
-    def listed(self, weights: list[Any] | None) -> list[Any] | None:
-        """The answers of a list of weights; None for None."""
-        return (
-            weights
-            if weights is None or self.is_whole
-            else [weight / self.factor for weight in weights]
-        )
 
     def series(self, weights: Integers) -> pandas.Series:
         """The answers as a column of pandas, `Int64` or float64, with NA where there is no walk."""
@@ -146,9 +115,8 @@ class Measure:
 
         if not self.is_whole:
             return pandas.Series(self.in_unit(weights))
-        return pandas.Series(
-            pandas.arrays.IntegerArray(numpy.array(weights, numpy.int64), weights < 0)
-        )
+        whole = numpy.array(weights, numpy.int64)
+        return pandas.Series(pandas.arrays.IntegerArray(whole, weights < 0))
 
 
 def microseconds(duration: Any) -> Fraction:
@@ -158,16 +126,13 @@ def microseconds(duration: Any) -> Fraction:
             raise ValueError("a duration is missing")
         return Fraction(int(duration.astype("timedelta64[ns]").astype(numpy.int64)), 1_000)
     nanoseconds = getattr(duration, "value", None)
-    return (
-        Fraction(nanoseconds, 1_000)
-        if nanoseconds is not None
-        else Fraction(duration // datetime.timedelta(microseconds=1))
-    )
+    if nanoseconds is not None:
+        return Fraction(nanoseconds, 1_000)
+    return Fraction(duration // datetime.timedelta(microseconds=1))
 
 
 def whole_limit(name: str, limit: Any) -> int:
-    """The largest whole number up to a limit, which admits the same weights. numpy compares it
-    exactly, unlike most other numbers."""
+    """The largest whole number up to a limit, which admits the same weights."""
     if not 0 <= limit <= MOST:
         raise ValueError(f"{name} is {limit!r}: a limit is from 0 to 2^60")
     # `math.floor` would make a float of a number of numpy first.
@@ -185,44 +150,23 @@ def unit_in(unit: Any) -> str | None:
 
 
 def scale_of(unit: str | None, scale: float | None) -> float | None:
-    """The factor for weights in a unit: the given scale, or the one that makes whole milliseconds
-    or millimetres; None if nothing is known."""
+    """The scale given, or that of whole milliseconds or millimetres; None for neither."""
     if scale is not None or unit is None:
         return scale
     return TIMES[unit] if unit in TIMES else FINE * LENGTHS[unit] if unit in LENGTHS else None
 
 
 def base_of(unit: str | None, scale: float | None) -> str:
-    """The unit of a graph's weights, if weights in a unit were multiplied by a scale: a name of
-    `BASES`, or empty."""
-    return next(
-        (
-            base
-            for base, units in BASES.items()
-            if scale is not None and unit in units and units[unit] == scale
-        ),
-        "",
-    )
+    """The unit in `BASES` of weights in a unit times a scale, or empty."""
+    bases = (base for base, units in BASES.items() if unit in units and units[unit] == scale)
+    return "" if unit is None or scale is None else next(bases, "")
 
 
 def asked_for(
-    unit: str | None,
-    scale: float | None,
-    base: str,
-    own_unit: str | None = None,
+    unit: str | None, scale: float | None, base: str, own_unit: str | None = None,
     own_scale: float | None = None,
 ) -> Measure:
-    """The measure for a caller's unit, on a graph whose comments name `base`, or which was made of
-    weights in `own_unit` times `own_scale`.
-
-    The default unit is that of the caller who made the graph, and otherwise the graph's own. With
-    `scale`, that many of the graph's weights make one.
-
-    Raises
-    ------
-    DataFault
-        Nothing says how many of the graph's weights make one of the unit.
-    """
+    """The measure for a caller's unit, on a graph in `base`, or of weights of its maker's own."""
     unit = unit_in(unit)
     if scale is not None:
         return Measure(own_unit or "" if unit is None else unit, scale)
@@ -234,22 +178,14 @@ def asked_for(
         if own_scale is not None and own_unit is not None and {unit, own_unit} <= set(units):
             return Measure(unit, own_scale * units[unit] / units[own_unit])
     if base:
-        raise DataFault(
-            f"the graph's weights are {base}, so that a unit is one of {', '.join(BASES[base])}; "
-            f"{unit!r} needs `scale`",
-            "unit",
-        )
-    text = (
-        f"nothing says how many of the graph's weights make one of {unit!r}: give `scale`, or a "
-        f"graph with `c Weights are {TIME}.` or `c Weights are {LENGTH}.`"
-    )
-    raise DataFault(text, "unit")
+        text = f"the graph's weights are {base}, so that a unit is one of {', '.join(BASES[base])}"
+        raise DataFault(f"{text}; {unit!r} needs `scale`", "unit")
+    text = f"nothing says how many of the graph's weights make one of {unit!r}: give `scale`, or a"
+    comments = f"`c Weights are {TIME}.` or `c Weights are {LENGTH}.`"
+    raise DataFault(f"{text} graph with {comments}", "unit")
 
 
 def unknown(unit: str) -> DataFault:
     """The fault of a unit that is not known and has no scale."""
-    return DataFault(
-        f"{unit!r} is not one of {', '.join([*TIMES, *LENGTHS])}: any other unit needs `scale`, "
-        "such as scale=1 for whole weights",
-        "unit",
-    )
+    text = f"{unit!r} is not one of {', '.join([*TIMES, *LENGTHS])}: any other unit needs `scale`"
+    return DataFault(f"{text}, such as scale=1 for whole weights", "unit")

@@ -9,6 +9,7 @@ from typing import TYPE_CHECKING, Any, TypeAlias
 
 import numpy
 
+from chtab._engine.forks import computed_once
 from chtab.errors import DataFault
 from chtab._files import columns
 from chtab._files.columns import GREATEST, INTEGERS, LEAST, TUPLES, row_of, quoted
@@ -33,42 +34,31 @@ class Numbers:
 
     def __init__(self, count: int) -> None:
         self.count = count
-        self.known: LabelArray | None = None
 
-    @property
+    @computed_once
     def values(self) -> LabelArray:
         """The labels, in order of the nodes."""
-        if self.known is None:
-            self.known = fixed(numpy.arange(1, self.count + 1))
-        return self.known
+        return fixed(numpy.arange(1, self.count + 1))
 
     def nodes_of(self, name: str, given: Any) -> Integers:
-        """The nodes of an array of numbers, of any shape. Numbers out of range are refused; whole
-        floats are taken."""
+        """The nodes of numbers of any shape, whole floats too. Those out of range are refused."""
         if isinstance(given, numpy.ma.MaskedArray):
             given = columns.array_of(name, given)
         column = numpy.asarray(given)
-        if column.size and not (
-            column.dtype.kind in "iu" or column.dtype.kind == "f" and is_whole(column)
-        ):
+        are_numbers = column.dtype.kind in "iu" or column.dtype.kind == "f" and is_whole(column)
+        if column.size and not are_numbers:
             raise no_number(name, column, given)
         outside = columns.first_of((column < 1) | (column > self.count))
         if outside is not None:
-            row = row_of(column, outside)
-            raise columns.refused(
-                name, row, f"node {column.flat[outside]:.17g} is not from 1 to {self.count:,}"
-            )
+            text = f"node {column.flat[outside]:.17g} is not from 1 to {self.count:,}"
+            raise columns.refused(name, row_of(column, outside), text)
         return column.astype(numpy.int64)
 
     def few(self, labels: Iterable[Any]) -> list[int] | None:
-        """The nodes of a short list of labels, as a list; None if one of them needs a closer
-        look."""
+        """The nodes of a short list of labels; None if one of them needs a closer look."""
         labels = [int(label) if type(label) is numpy.int64 else label for label in labels]
-        return (
-            labels
-            if all(type(label) is int and 0 < label <= self.count for label in labels)
-            else None
-        )
+        are_nodes = all(type(label) is int and 0 < label <= self.count for label in labels)
+        return labels if are_nodes else None
 
     def of(self, nodes: Integers) -> LabelArray:
         """The labels of an array of nodes."""
@@ -92,81 +82,57 @@ def is_whole(column: NDArray[Any]) -> bool:
 
 def no_number(name: str, column: NDArray[Any], given: Any) -> DataFault:
     """The fault of the first value that is no number of a node."""
-    values = (
-        column
-        if column.dtype != object and not isinstance(given, list | tuple)
-        else numpy.array(given, object)
-    )
-    place = columns.first_of([not is_node(value) for value in values.reshape(-1).tolist()]) or 0
-    return columns.refused(
-        name,
-        row_of(values, place),
-        f"{quoted(values.reshape(-1).tolist()[place])} is no node: a node is a whole number",
-    )
+    is_array = column.dtype != object and not isinstance(given, list | tuple)
+    array = column if is_array else numpy.array(given, object)
+    values = array.reshape(-1).tolist()
+    place = columns.first_of([not is_node(value) for value in values]) or 0
+    text = f"{quoted(values[place])} is no node: a node is a whole number"
+    return columns.refused(name, row_of(array, place), text)
 
 
 def is_node(value: object) -> bool:
     """Whether a value is a whole number."""
     return (
         columns.is_integer(type(value))
-        or isinstance(value, float | numpy.floating)
-        and float(value).is_integer()
-    )
+        or isinstance(value, float | numpy.floating) and float(value).is_integer())
 
 
 class Labels:
-    """The labels of a caller: node k has `values[k - 1]`, int64, or objects that are all `int`, all
-    `str` or all tuples. No two are equal.
-
-    The index of the labels is made when it is first needed, and twice if two threads need it at a
-    time. A lock would be held for ever in a process that is forked while a thread holds it.
-    """
+    """The labels of a caller, no two equal: int64, or objects that are `int`, `str` or tuples."""
 
     def __init__(self, values: LabelArray) -> None:
-        self.values = fixed(values.copy())
-        self.in_order: tuple[LabelArray, Integers] | None = None
-        self.by_label: dict[Label, int] | None = None
-        self.count = len(values)
+        self.values, self.count = fixed(values.copy()), len(values)
         self.kind = columns.kind_of(type(values[0])) if len(values) else INTEGERS
 
-    @property
+    @computed_once
     def sorted(self) -> tuple[LabelArray, Integers]:
         """The labels in order and the node of each, for integers of 64 bits."""
-        if self.in_order is None:
-            order = numpy.argsort(self.values, kind="stable")
-            self.in_order = self.values[order], order + 1
-        return self.in_order
+        order = numpy.argsort(self.values, kind="stable")
+        return self.values[order], order + 1
 
-    @property
+    @computed_once
     def numbers(self) -> dict[Label, int]:
         """The node of each label, for all other labels."""
-        if self.by_label is None:
-            self.by_label = dict(zip(self.values.tolist(), range(1, len(self.values) + 1)))
-        return self.by_label
+        return dict(zip(self.values.tolist(), range(1, len(self.values) + 1)))
 
     def nodes_of(self, name: str, given: Any) -> Integers:
-        """The nodes of labels, an array of int64 in the shape of the argument. Raises a `DataFault`
-        if no node has a label."""
-        labels = (
-            self.tuples_of(name, given) if self.kind == TUPLES else columns.labels_in(name, given)
-        )
+        """The nodes of labels in the shape of these. Labels of no node are refused."""
+        read = self.tuples_of if self.kind == TUPLES else columns.labels_in
+        labels = read(name, given)
         nodes = self.found(labels)
         place = columns.first_of(nodes == 0)
         if place is not None:
-            row, label = row_of(labels, place), labels.reshape(-1)[place:place + 1].tolist()[0]
-            raise DataFault(
-                f"{name}[{row}]: no node has the label {quoted(label)}; labels are {self.kind}",
-                name,
-                row,
-            )
+            label = labels.reshape(-1)[place:place + 1].tolist()[0]
+            text = f"no node has the label {quoted(label)}; labels are {self.kind}"
+            raise columns.refused(name, row_of(labels, place), text)
         return nodes
 
     def tuples_of(self, name: str, given: Any) -> LabelArray:
         """Tuples in the shape of the argument: a column of labels, or rows of them."""
         items = list(given)
-        if all(
-            isinstance(item, tuple) and not (item and isinstance(item[0], tuple)) for item in items
-        ):
+        firsts = (item[0] if isinstance(item, tuple) and item else None for item in items)
+        are_tuples = all(isinstance(item, tuple) for item in items)
+        if are_tuples and not any(isinstance(first, tuple) for first in firsts):
             return columns.tuples_in(name, items)
         rows = [columns.tuples_in(name, row) for row in items]
         if len({len(row) for row in rows}) != 1:
@@ -185,21 +151,18 @@ class Labels:
         return numpy.where(values[place] == labels, nodes[place], 0)
 
     def few(self, labels: Iterable[Any]) -> list[int] | None:
-        """The nodes of a short list of labels, as a list; None if one of them needs a closer
-        look."""
+        """The nodes of a short list of labels; None if one of them needs a closer look."""
         labels = [int(label) if type(label) is numpy.int64 else label for label in labels]
         if self.values.dtype == object:
-            found = [
-                self.numbers.get(label, 0) if type(label) in (int, str) else 0 for label in labels
-            ]
-            return None if 0 in found else found
+            known = [label for label in labels if type(label) in (int, str)]
+            found = [self.numbers.get(label, 0) for label in known]
+            return None if 0 in found or len(known) < len(labels) else found
         if not all(type(label) is int and LEAST <= label <= GREATEST for label in labels):
             return None
         values, nodes = self.sorted
         places = values.searchsorted(labels).tolist()
-        is_there = all(
-            place < len(values) and values[place] == label for place, label in zip(places, labels)
-        )
+        pairs = zip(places, labels)
+        is_there = all(place < len(values) and values[place] == label for place, label in pairs)
         return [int(nodes[place]) for place in places] if is_there else None
 
     def of(self, nodes: Integers) -> LabelArray:
@@ -210,11 +173,8 @@ class Labels:
         """An index of pandas with a caller's labels. Tuples make one column, not several."""
         import pandas
 
-        return (
-            pandas.Index(columns.objects_of(list(given)), name=name, tupleize_cols=False)
-            if self.kind == TUPLES
-            else pandas.Index(given, name=name)
-        )
+        labels = columns.objects_of(list(given)) if self.kind == TUPLES else given
+        return pandas.Index(labels, name=name, tupleize_cols=False)
 
     def listed(self, nodes: list[int]) -> list[Label]:
         """The labels of a list of nodes, as a list."""
@@ -235,29 +195,20 @@ def doubled(name: str, labels: Sequence[Label]) -> DataFault:
     known: dict[Label, int] = {}
     for row, label in enumerate(labels):
         if known.setdefault(label, row) != row:
-            return columns.refused(
-                name, row, f"the label {quoted(label)} is in row {known[label]} already"
-            )
+            text = f"the label {quoted(label)} is in row {known[label]} already"
+            return columns.refused(name, row, text)
     raise AssertionError("no label is repeated")
 
 
 def labels_of_ends(
     names: Sequence[str], sources: LabelArray, targets: LabelArray
 ) -> tuple[Labels, Integers]:
-    """The labels in either of two columns, in ascending order, and the nodes of both columns, int64
-    (2, m)."""
-    kinds = [
-        columns.kind_of(type(values[:1].tolist()[0]))
-        for values in (sources, targets)
-        if len(values)
-    ]
+    """The labels in either of two columns in ascending order, and the nodes of both (2, m)."""
+    firsts = [*sources[:1].tolist(), *targets[:1].tolist()]
+    kinds = [columns.kind_of(type(label)) for label in firsts]
     if len(set(kinds)) > 1:
-        raise columns.refused(
-            names[1],
-            0,
-            f"the label {quoted(targets[:1].tolist()[0])} is not one of {kinds[0]}, as those of "
-            f"{names[0]}",
-        )
+        text = f"the label {quoted(firsts[1])} is not one of {kinds[0]}, as those of {names[0]}"
+        raise columns.refused(names[1], 0, text)
     if sources.dtype == targets.dtype == numpy.int64:
         values, places = numpy.unique(numpy.concatenate([sources, targets]), return_inverse=True)
     else:
@@ -266,17 +217,15 @@ def labels_of_ends(
 
 
 def ordered(labels: Sequence[Label]) -> tuple[LabelArray, Integers]:
-    """The different labels of a list in ascending order, as an array of objects, and the place of
-    each item of the list among them."""
+    """The labels of a list in ascending order, each once, and the place of each item there."""
     numbers: dict[Label, int] = collections.defaultdict(itertools.count().__next__)
     found = numpy.fromiter(map(numbers.__getitem__, labels), numpy.int64, len(labels))
     known = list(numbers)
     try:
         order = numpy.array(sorted(range(len(known)), key=known.__getitem__), numpy.int64)
     except TypeError:
-        raise DataFault(
-            "labels have no order, because their parts are of several kinds: give `nodes`", "nodes"
-        ) from None
+        text = "labels have no order, because their parts are of several kinds: give `nodes`"
+        raise DataFault(text, "nodes") from None
     places = numpy.empty(len(known), numpy.int64)
     places[order] = numpy.arange(len(known))
     return columns.objects_like(places, known)[order], places[found]

@@ -18,8 +18,7 @@ UNKNOWN: LabelArray = numpy.zeros(0, numpy.int64)
 
 
 def labels_in(index: Any) -> LabelArray:
-    """The labels of an index of pandas, in order: integers, strings or tuples. Raises a `DataFault`
-    for other labels, such as dates."""
+    """The labels of an index of pandas in order. Others, such as dates, are refused."""
     return columns.column_labels_in("index", list(index) if is_of_levels(index) else index)
 
 
@@ -28,21 +27,16 @@ def is_of_levels(index: Any) -> bool:
     return getattr(index, "nlevels", 1) > 1
 
 
-def are_numbers(labels: LabelArray, count: int) -> bool:
-    """Whether labels are 0, 1, .. up to `count` - 1, in order."""
-    return labels.dtype == numpy.int64 and numpy.array_equal(labels, numpy.arange(count))
-
-
 def kept(index: Any, rows: int) -> LabelArray | None:
-    """The labels of the index of a caller's rows; None if they are 0, 1, .., or if there is no
-    index, and `UNKNOWN` if they can't be kept."""
+    """The labels of rows; None for 0, 1, .. or no index, `UNKNOWN` if they can't be kept."""
     if index is None:
         return None
     try:
         labels = labels_in(index)
     except DataFault:
         return UNKNOWN
-    return None if are_numbers(labels, rows) else labels
+    are_numbers = labels.dtype == numpy.int64 and numpy.array_equal(labels, numpy.arange(rows))
+    return None if are_numbers else labels
 
 
 def index_of(column: Any) -> Any:
@@ -51,33 +45,17 @@ def index_of(column: Any) -> Any:
 
 
 def matched(names: Sequence[str], given: Sequence[Any]) -> list[Any]:
-    """Columns that go together, row by row. Those of pandas are put into the order of the first
-    one's index.
-
-    Raises
-    ------
-    DataFault
-        The indexes of two of them have other labels, or labels that occur twice in another order.
-    """
+    """Columns that go together, those of pandas by the first one's index, or they are refused."""
     found = list(given)
     own = [place for place, column in enumerate(given) if index_of(column) is not None]
     for place in own[1:]:
         index, other = given[own[0]].index, given[place].index
         if other is index or other.equals(index):
             continue
-        if not (
-            len(other) == len(index)
-            and other.is_unique
-            and index.is_unique
-            and other.isin(index).all()
-        ):
-            text = (
-                f"the rows of {names[place]} and of {names[own[0]]} have other labels, so that "
-                "nothing says which go together"
-            )
-            raise DataFault(
-                f"{text}: give columns of one frame, or arrays, as `to_numpy()` gives them",
-                names[place],
-            )
+        are_unique = len(other) == len(index) and other.is_unique and index.is_unique
+        if not are_unique or not other.isin(index).all():
+            text = f"the rows of {names[place]} and of {names[own[0]]} have other labels, so that"
+            hint = "give columns of one frame, or arrays, as `to_numpy()` gives them"
+            raise DataFault(f"{text} nothing says which go together: {hint}", names[place])
         found[place] = given[place].iloc[other.get_indexer(index)]
     return found

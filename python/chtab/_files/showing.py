@@ -2,7 +2,7 @@
 from __future__ import annotations
 
 import html
-from collections.abc import Mapping, Sequence
+from collections.abc import Iterable, Mapping, Sequence
 from typing import TYPE_CHECKING, Any
 
 import numpy
@@ -22,25 +22,31 @@ DEGREES = "EPSG:4326"
 
 
 class OnMap:
-    """An answer that can be shown on a map. `to_geojson` returns its features, and `shown_by` names the property that colours them."""
+    """An answer to show on a map: features by `to_geojson`, coloured by the property `shown_by`."""
 
     shown_by = ""
+    # Whether `to_frame` has a row for each feature.
+    _is_framed = False
 
     if TYPE_CHECKING:
         def to_geojson(self) -> Geojson:
             """The features of the answer."""
+
+        def to_frame(self) -> pandas.DataFrame:
+            """The answers in rows."""
 
     @property
     def __geo_interface__(self) -> dict:
         return self.to_geojson()
 
     def to_geodataframe(self) -> geopandas.GeoDataFrame:
-        """Returns the features as a GeoDataFrame.
+        """Returns the answers as a GeoDataFrame.
 
         Returns
         -------
         geopandas.GeoDataFrame
-            A row for each feature with its properties, and its shape in degrees (EPSG:4326), or None.
+            A row for each answer: what `to_frame` has of it, or else the properties of its feature;
+            and its shape in degrees (EPSG:4326), None where no path leads.
 
         Raises
         ------
@@ -49,7 +55,10 @@ class OnMap:
         ChtabError
             The network has no places of nodes.
         """
-        return geodataframe(self.to_geojson())
+        found = geodataframe(self.to_geojson())
+        if self._is_framed:
+            return with_geometry(self.to_frame(), found.geometry.to_list())
+        return found
 
     def plot(self, ax: matplotlib.axes.Axes | None = None, **style: Any) -> matplotlib.axes.Axes:
         """Draws the features by matplotlib, coloured by their weights or limits.
@@ -82,12 +91,14 @@ class OnMap:
         Parameters
         ----------
         **style
-            Options of the lines and polygons of Leaflet, such as `weight`, `color` or `fillOpacity`.
+            Options of the lines and polygons of Leaflet, such as `weight`, `color` or
+            `fillOpacity`.
 
         Returns
         -------
         folium.Map
-            The map, whose background tiles a browser loads from OpenStreetMap. Features without a geometry are not shown.
+            The map, whose background tiles a browser loads from OpenStreetMap. Features without a
+            geometry are not shown.
 
         Raises
         ------
@@ -110,9 +121,19 @@ class OnMap:
 
 def table_text(title: str, rows: list[dict]) -> str:
     """The HTML of a table of rows with the same keys. Their values are escaped."""
-    cells = "".join("<tr>" + "".join(f"<td>{html.escape(str(value))}</td>" for value in row.values()) + "</tr>" for row in rows)
-    heads = "".join(f"<th>{html.escape(str(name))}</th>" for name in (rows[0] if rows else ()))
-    return f"<p>{html.escape(title)}</p><table><thead><tr>{heads}</tr></thead><tbody>{cells}</tbody></table>"
+    def row_of(tag: str, values: Iterable[Any]) -> str:
+        cells = (f"<{tag}>{html.escape(str(value))}</{tag}>" for value in values)
+        return f"<tr>{''.join(cells)}</tr>"
+
+    head = row_of("th", rows[0] if rows else ())
+    body = "".join(row_of("td", row.values()) for row in rows)
+    table = f"<table><thead>{head}</thead><tbody>{body}</tbody></table>"
+    return f"<p>{html.escape(title)}</p>{table}"
+
+
+def table_of(title: str, **columns: Iterable[Any]) -> str:
+    """The same of columns."""
+    return table_text(title, [dict(zip(columns, row)) for row in zip(*columns.values())])
 
 
 def values_of(features: Sequence[Geojson], name: str) -> Floats:
@@ -121,19 +142,21 @@ def values_of(features: Sequence[Geojson], name: str) -> Floats:
 
 
 def drawn(features: Sequence[Geojson], name: str, ax: Any, style: Mapping[str, Any]) -> Any:
-    """Draws features in axes of matplotlib, with one collection each for points, lines and polygons."""
+    """Draws features by matplotlib: a collection each for points, lines and polygons."""
     from matplotlib import pyplot
 
     if ax is None:
         ax = pyplot.figure().add_subplot()
     values = values_of(features, name)
-    for kind, draw in (("Point", draw_points), ("LineString", draw_lines), ("MultiPolygon", draw_polygons)):
+    drawers = {"Point": draw_points, "LineString": draw_lines, "MultiPolygon": draw_polygons}
+    for kind, draw in drawers.items():
         which = [place for place, each in enumerate(features) if each["geometry"]["type"] == kind]
+        shapes = [features[place]["geometry"]["coordinates"] for place in which]
         if which:
-            draw(ax, [features[place]["geometry"]["coordinates"] for place in which], values[which], {"cmap": COLOURS, **style})
+            draw(ax, shapes, values[which], {"cmap": COLOURS, **style})
     ax.autoscale_view()
-    low, high = ax.get_ylim()
-    ax.set_aspect(1 / max(numpy.cos(numpy.radians((low + high) / 2)), 0.01) if abs(low + high) < 180 else 1)
+    middle = sum(ax.get_ylim()) / 2
+    ax.set_aspect(1 / max(numpy.cos(numpy.radians(middle)), 0.01) if abs(middle) < 90 else 1)
     ax.set(xlabel="longitude", ylabel="latitude")
     return ax
 
@@ -145,16 +168,17 @@ def draw_points(ax: Any, points: Sequence[Any], values: Floats, style: Mapping[s
 def draw_lines(ax: Any, lines: Sequence[Any], values: Floats, style: Mapping[str, Any]) -> None:
     from matplotlib.collections import LineCollection
 
-    ax.add_collection(LineCollection([numpy.array(line, float) for line in lines], array=values, **style))
+    drawn = [numpy.array(line, float) for line in lines]
+    ax.add_collection(LineCollection(drawn, array=values, **style))
 
 
 def draw_polygons(ax: Any, areas: Sequence[Any], values: Floats, style: Mapping[str, Any]) -> None:
     from matplotlib.collections import PathCollection
     from matplotlib.path import Path
 
-    paths = [
-        Path.make_compound_path(*(Path(numpy.array(ring, float), closed=True) for polygon in area for ring in polygon)) for area in areas
-    ]
+    rings = [[ring for polygon in area for ring in polygon] for area in areas]
+    closed = [[Path(numpy.array(ring, float), closed=True) for ring in own] for own in rings]
+    paths = [Path.make_compound_path(*own) for own in closed]
     ax.add_collection(PathCollection(paths, array=values, **{"alpha": 0.5, **style}))
 
 
@@ -164,29 +188,33 @@ def explored(features: Sequence[Geojson], name: str, style: Mapping[str, Any]) -
     from matplotlib import colormaps, colors
 
     values = values_of(features, name)
-    scale = colors.Normalize(numpy.nanmin(values), numpy.nanmax(values)) if numpy.isfinite(values).any() else (lambda value: 0.0)
-    shown = folium.Map()
-    bounds = []
+    finite = values[numpy.isfinite(values)]
+    scale = colors.Normalize(finite.min(initial=numpy.inf), finite.max(initial=-numpy.inf))
+    shown, bounds = folium.Map(), []
     for feature, value in zip(features, values):
-        colour = colors.to_hex(colormaps[COLOURS](float(scale(value)) if numpy.isfinite(value) else 0.0))
-        whole = {"color": colour, "weight": 4, **style}
-        text = "<br>".join(f"{html.escape(str(key))}: {html.escape(str(told))}" for key, told in feature["properties"].items())
-        marker = folium.CircleMarker(radius=3, **whole) if feature["geometry"]["type"] == "Point" else None
-        item = folium.GeoJson(feature, style_function=lambda _, whole=whole: whole, marker=marker)
-        item.add_child(folium.Tooltip(text))
+        part = float(scale(value)) if numpy.isfinite(value) else 0.0
+        own = {"color": colors.to_hex(colormaps[COLOURS](part)), "weight": 4, **style}
+        lines = (f"{key}: {each}" for key, each in feature["properties"].items())
+        is_point = feature["geometry"]["type"] == "Point"
+        marker = folium.CircleMarker(radius=3, **own) if is_point else None
+        item = folium.GeoJson(feature, style_function=lambda _, own=own: own, marker=marker)
+        item.add_child(folium.Tooltip("<br>".join(map(html.escape, lines))))
         item.add_to(shown)
         bounds.append(item.get_bounds())
     if bounds:
-        shown.fit_bounds([[min(each[0][axis] for each in bounds) for axis in (0, 1)], [max(each[1][axis] for each in bounds) for axis in (0, 1)]])
+        corners = numpy.array(bounds, float)
+        shown.fit_bounds([corners[:, 0].min(axis=0).tolist(), corners[:, 1].max(axis=0).tolist()])
     return shown
 
 
 def geodataframe(collection: dict) -> geopandas.GeoDataFrame:
-    """The features of a collection of GeoJSON as rows, in longitudes and latitudes, with None for a missing geometry."""
+    """The features of a collection as rows in degrees, None for a missing geometry."""
     import geopandas
     from shapely.geometry import shape
 
-    rows = [{**each["properties"], "geometry": each["geometry"] and shape(each["geometry"])} for each in collection["features"]]
+    features = collection["features"]
+    shapes = [each["geometry"] and shape(each["geometry"]) for each in features]
+    rows = [{**each["properties"], "geometry": own} for each, own in zip(features, shapes)]
     columns = [*rows[0]] if rows else ["geometry"]
     return geopandas.GeoDataFrame(rows, columns=columns, geometry="geometry", crs=DEGREES)
 
@@ -195,4 +223,5 @@ def with_geometry(frame: pandas.DataFrame, shapes: Sequence[Any]) -> geopandas.G
     """A frame with shapes in degrees as its geometry."""
     import geopandas
 
-    return geopandas.GeoDataFrame(frame, geometry=geopandas.GeoSeries(shapes, index=frame.index, crs=DEGREES))
+    geometry = geopandas.GeoSeries(shapes, index=frame.index, crs=DEGREES)
+    return geopandas.GeoDataFrame(frame, geometry=geometry)

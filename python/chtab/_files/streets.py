@@ -6,7 +6,9 @@ from collections.abc import Iterable
 from typing import TYPE_CHECKING, Any, NamedTuple
 
 from chtab.errors import FileFault
-from chtab._files.forms import name_of, reading, write_comments, write_rows, writing
+from chtab._files.forms import (
+    name_of, reading, see_that_of_graph, write_comments, write_rows, writing,
+)
 
 if TYPE_CHECKING:
     from chtab.typing import Source, Target
@@ -17,8 +19,9 @@ SIDE = "Driving side: "
 
 
 class Street(NamedTuple):
-    """What travellers read about a road in one direction: its kind (`highway` of OpenStreetMap, or `ferry`), `roundabout` or `circular` if it is a
-    ring, its name, its number, and the destinations on its signs; each may be empty."""
+    """What travellers read about a road in one direction: its kind (`highway` of OpenStreetMap, or
+    `ferry`), `roundabout` or `circular` if it is a ring, its name, its number, and the destinations
+    on its signs; each may be empty."""
 
     highway: str = ""
     junction: str = ""
@@ -28,8 +31,8 @@ class Street(NamedTuple):
 
 
 class Streets(NamedTuple):
-    """The streets of a graph. `of_arcs` has for each arc the place of its street in `streets`, from 1 on, or 0 for none. `side` is the side of the
-    road that is driven on, `right` or `left`."""
+    """The streets of a graph. `of_arcs` has for each arc the place of its street in `streets`, from
+    1 on, or 0 for none. `side` is the side of the road that is driven on, `right` or `left`."""
 
     streets: list[Street]
     of_arcs: list[int]
@@ -37,7 +40,8 @@ class Streets(NamedTuple):
 
 
 def write_streets(target: Target, found: Streets, comments: Iterable[str] = ()) -> None:
-    """Writes streets (`.names`): a line `s {..}` for each, an object of JSON without empty fields, and then a line `a STREET` for each arc, in order.
+    """Writes streets (`.names`): a line `s {..}` for each, an object of JSON without empty fields,
+    and then a line `a STREET` for each arc, in order.
 
     Parameters
     ----------
@@ -57,7 +61,8 @@ def write_streets(target: Target, found: Streets, comments: Iterable[str] = ()) 
         write_comments(file, [*comments, f"{SIDE}{found.side}."])
         file.write(f"p aux sp names {len(found.streets)} {len(found.of_arcs)}\n")
         for street in found.streets:
-            file.write(f"s {json.dumps({key: value for key, value in street._asdict().items() if value})}\n")
+            fields = {key: value for key, value in street._asdict().items() if value}
+            file.write(f"s {json.dumps(fields)}\n")
         write_rows(file, "a %d\n", ((number,) for number in found.of_arcs))
 
 
@@ -79,11 +84,12 @@ def read_streets(source: Source, arcs: int) -> Streets:
     Raises
     ------
     FileFault
-        The file isn't of this kind, or belongs to another graph; the message names it, and the line if there is one.
+        The file isn't of this kind, or belongs to another graph; the message names it, and the line
+        if there is one.
     """
     streets: list[Street] = []
     of_arcs: list[int] = []
-    side, told = SIDES[0], None
+    side, counts = SIDES[0], None
     with reading(source) as file:
         for number, line in enumerate(file, 1):
             try:
@@ -92,19 +98,20 @@ def read_streets(source: Source, arcs: int) -> Streets:
                 elif line.startswith("s "):
                     streets.append(street_in(json.loads(line[2:])))
                 elif line.startswith("p "):
-                    told = told_of(line)
+                    counts = counts_in(line)
                 elif line.startswith(f"c {SIDE}"):
                     side = SIDES[SIDES.index(line[2:].strip().removeprefix(SIDE).removesuffix("."))]
             except (ValueError, RecursionError):
                 raise FileFault(f"{name_of(source)} line {number}: not a line of streets") from None
-    if told != (len(streets), len(of_arcs)) or not all(0 <= number <= len(streets) for number in of_arcs):
-        raise FileFault(f"{name_of(source)}: cut short, or not a file of streets, whose problem line is `p aux sp names STREETS ARCS`")
-    if len(of_arcs) != arcs:
-        raise FileFault(f"{name_of(source)}: streets of {len(of_arcs):,} arcs, where the graph has {arcs:,}: they are those of another graph")
+    are_there = all(0 <= number <= len(streets) for number in of_arcs)
+    if counts != (len(streets), len(of_arcs)) or not are_there:
+        text = "cut short, or not a file of streets, whose problem line is"
+        raise FileFault(f"{name_of(source)}: {text} `p aux sp names STREETS ARCS`")
+    see_that_of_graph(source, "streets", len(of_arcs), arcs)
     return Streets(streets, of_arcs, side)
 
 
-def told_of(line: str) -> tuple[int, int]:
+def counts_in(line: str) -> tuple[int, int]:
     """The numbers of streets and of arcs in a problem line."""
     *words, streets, arcs = line.split()
     if words != ["p", "aux", "sp", "names"]:
@@ -114,6 +121,8 @@ def told_of(line: str) -> tuple[int, int]:
 
 def street_in(value: Any) -> Street:
     """The street of an object of JSON, whose fields are all strings."""
-    if not isinstance(value, dict) or not all(key in FIELDS and isinstance(text, str) for key, text in value.items()):
+    if not isinstance(value, dict) or not all(isinstance(text, str) for text in value.values()):
+        raise ValueError
+    if not set(value) <= set(FIELDS):
         raise ValueError
     return Street(**value)

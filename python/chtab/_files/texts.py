@@ -2,7 +2,6 @@
 as arrays of numpy."""
 from __future__ import annotations
 
-import array
 import csv
 import itertools
 from collections.abc import Iterable, Iterator
@@ -134,14 +133,11 @@ def read_rows(source: Source, width: int) -> Iterator[tuple[int, list[int | None
         is_csv = first.startswith("source,")
         for line in file if is_csv else itertools.chain([first], file):
             words = (
-                ["t", *(cell or "-" for cell in line.strip("\n").split(","))]
-                if is_csv
-                else line.split()
-            )
+                ["t", *(cell or "-" for cell in line.strip("\n").split(","))] if is_csv
+                else line.split())
             if words[:1] != ["t"] or len(words) != 2 + width:
                 raise FileFault(
-                    f"not a row of `chtab table` with {width} targets: {line.strip()[:60]}"
-                )
+                    f"not a row of `chtab table` with {width} targets: {line.strip()[:60]}")
             yield int(words[1]), [number_of(cell) for cell in words[2:]]
 
 
@@ -168,11 +164,8 @@ def read_near(source: Source) -> Iterator[tuple[int, list[tuple[int, int]]]]:
         for count, line in enumerate(file, 1):
             words = line.split()
             if (
-                words[:1] != ["n"]
-                or len(words) < 3
-                or not all(map(str.isdigit, words[1:]))
-                or len(words) != 3 + 2 * int(words[2])
-            ):
+                words[:1] != ["n"] or len(words) < 3 or not all(map(str.isdigit, words[1:]))
+                or len(words) != 3 + 2 * int(words[2])):
                 raise FileFault(f"not a row of `chtab near`: {line.strip()[:60]}")
             yield int(words[1]), list(zip(map(int, words[3::2]), map(int, words[4::2])))
     if not count:
@@ -202,5 +195,4 @@ def write_csv(
         lines = csv.writer(file, lineterminator="\n")
         lines.writerow(["source", *targets])
         lines.writerows(
-            [source, *("" if cell is None else cell for cell in cells)] for source, cells in rows
-        )
+            [source, *("" if cell is None else cell for cell in cells)] for source, cells in rows)

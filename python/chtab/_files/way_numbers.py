@@ -6,7 +6,9 @@ from collections.abc import Iterable, Sequence
 from typing import TYPE_CHECKING
 
 from chtab.errors import FileFault
-from chtab._files.forms import columns, name_of, write_comments, write_rows, writing
+from chtab._files.forms import (
+    columns, name_of, see_that_of_graph, write_comments, write_rows, writing,
+)
 
 if TYPE_CHECKING:
     from chtab.typing import Source, Target
@@ -20,7 +22,8 @@ def write_ways(target: Target, numbers: Sequence[int], comments: Iterable[str] =
     target : path or open file
         The file to write.
     numbers : list of int
-        For each arc OpenStreetMap's number of the way that it is a part of, 0 for an arc that is a part of none.
+        For each arc OpenStreetMap's number of the way that it is a part of, 0 for an arc that is a
+        part of none.
     comments : list of str
         The first lines.
 
@@ -53,12 +56,13 @@ def read_ways(source: Source, arcs: int) -> array.array[int]:
     Raises
     ------
     FileFault
-        The file isn't of this kind, or belongs to another graph; the message names it, and the line if there is one.
+        The file isn't of this kind, or belongs to another graph; the message names it, and the line
+        if there is one.
     """
     (numbers,), lines = columns(source, b"w", 1)
     problems = [line.split() for line in lines if line[:1] == b"p"]
     if problems != [[b"p", b"aux", b"sp", b"ways", str(len(numbers)).encode()]]:
-        raise FileFault(f"{name_of(source)}: cut short, or not a file of ways, whose problem line is `p aux sp ways ARCS`")
-    if len(numbers) != arcs:
-        raise FileFault(f"{name_of(source)}: ways of {len(numbers):,} arcs, where the graph has {arcs:,}: they are those of another graph")
+        text = "cut short, or not a file of ways, whose problem line is `p aux sp ways ARCS`"
+        raise FileFault(f"{name_of(source)}: {text}")
+    see_that_of_graph(source, "ways", len(numbers), arcs)
     return numbers

@@ -3,8 +3,7 @@
 | module | what it holds |
 |---|---|
 | `questions` | what callers ask, as nodes, spots and numbers |
-| `question` | a question between nodes, and its rows by a handle of the library |
-| `spots` | a question between spots, and its rows by tables of trips |
+| `question` | questions between nodes or spots, and their rows by the library |
 | `blocks` | near rows of any size, in blocks: threads, or a cluster |
 | `rows` | near rows in compressed form |
 | `found` | answers as callers get them |

@@ -14,8 +14,9 @@ import numpy
 from chtab._engine import cluster, deadlines
 from chtab._engine.progress import progress_of
 from chtab._near import rows as near_rows
-from chtab._near.question import FEW, SHARE, SWEPT, NearQuestion, NearRows
-from chtab._near.spots import SpotQuestion
+from chtab._near.question import (
+    FEW, SHARE, SWEPT, NearQuestion, NearRows, Question, SpotQuestion,
+)
 
 if TYPE_CHECKING:
     from numpy.typing import NDArray
@@ -30,27 +31,19 @@ AHEAD = 2
 # they are completed.
 Make: TypeAlias = "Callable[[Block, Iterable[tuple[int, near_rows.Rows]]], Any]"
 Made: TypeAlias = "Generator[tuple[Block, Any], None, None]"
-# A question between nodes, or between spots.
-Question: TypeAlias = NearQuestion | SpotQuestion
 
 
 @dataclass(frozen=True)
 class Block:
-    """A block: the rows of some sources among some of the targets, with the places where both
-    start, and their question."""
+    """The rows of some sources among some targets, the places where both start, their question."""
 
     row: int
     column: int
     question: Question
 
 
-def cut(question: NearQuestion, nodes: int, workers: int = 1) -> Iterator[Block]:
-    """Cuts a question with lists of any length into blocks, on a network with this many nodes, for
-    this many workers.
-
-    If all nodes have few pairs, a single worker answers for them at once. Otherwise the sources are
-    divided.
-    """
+def cut(question: Question, nodes: int, workers: int = 1) -> Iterator[Block]:
+    """Cuts a question with lists of any length into blocks, for so many nodes and workers."""
     width = len(question.targets)
     most = min(width, LENGTH, width if question.count is None else question.count)
     for row, sources in parts_of(question.sources, nodes, most, workers):
@@ -62,8 +55,7 @@ def cut(question: NearQuestion, nodes: int, workers: int = 1) -> Iterator[Block]
 def parts_of(
     sources: Integers | None, nodes: int, most: int, workers: int,
 ) -> Sequence[tuple[int, Integers | None]]:
-    """The sources in parts, each with the place at which it starts. A row has at most this many
-    pairs."""
+    """The sources in parts with their first places; all nodes in one if they have few pairs."""
     if sources is None and workers == 1 and nodes * most <= PAIRS:
         return [(0, None)] if nodes else []
     sources = numpy.arange(1, nodes + 1) if sources is None else sources
@@ -128,8 +120,7 @@ def side_by_side(engine: InProcess, found: Iterable[Block], make: Make, workers:
 
 
 def on_cluster(engine: InProcess, found: Iterable[Block], make: Make, client: Any) -> Made:
-    """Makes blocks by the workers of a cluster, which send rows. The values are made in this
-    process, one after the other."""
+    """Makes blocks by the workers of a cluster, which send rows; values are made here."""
     deadline, left = deadlines.current(engine.setting.timeout), iter(found)
     with cluster.Tasks(client) as tasks:
         def begin() -> None:
@@ -153,9 +144,7 @@ def rows_on_worker(engine: InProcess, question: NearQuestion) -> near_rows.Rows:
 def values(
     engine: InProcess, question: Question, make: Make, workers: Any = 1, progress: Any = None,
 ) -> Iterator[tuple[Block, Any]]:
-    """Yields each block of a question with its value, as it is completed. `workers` is a number of
-    threads, or a client of Dask, and `progress` is what `progress_of` takes. A question between
-    spots is one block."""
+    """Yields each block with its value, made by threads, or by the workers of a client of Dask."""
     engine.see_that_open()
     if isinstance(question, SpotQuestion):
         block = Block(0, 0, question)
@@ -177,7 +166,7 @@ def values(
         yield from counted.each(made)
 
 
-def are_swept(question: NearQuestion, nodes: int) -> bool:
+def are_swept(question: Question, nodes: int) -> bool:
     """Whether one thread makes the rows of all nodes at once, in less time than several search."""
     is_wide = question.height(nodes) >= SHARE * nodes
     return is_wide and nodes * question.most() <= max(SWEPT, FEW * nodes)
@@ -204,9 +193,5 @@ def rows(
         parts.setdefault(block.row, []).append((block.column, found))
     if not parts:
         return near_rows.empty(question.height(engine.nodes))
-    return near_rows.below([of_row(parts.pop(row), question.count) for row in sorted(parts)])
-
-
-def of_row(parts: Sequence[tuple[int, near_rows.Rows]], count: int | None) -> near_rows.Rows:
-    """Joins the rows of some sources, given for each part of the targets."""
-    return parts[0][1] if len(parts) == 1 else near_rows.beside(parts, count)
+    of_rows = (parts.pop(row) for row in sorted(parts))
+    return near_rows.below([near_rows.beside(own, question.count) for own in of_rows])

@@ -10,7 +10,8 @@ from numpy.typing import NDArray
 
 from chtab._engine.walks import NO_WALK
 from chtab._files import geojson
-from chtab._files.showing import OnMap, table_text
+from chtab._files.columns import objects_of
+from chtab._files.showing import SHOWN, OnMap, table_of
 
 if TYPE_CHECKING:
     import pandas
@@ -65,12 +66,8 @@ class Near:
         return f"<{len(self.places):,} targets near {len(self):,} sources>"
 
     def _repr_html_(self) -> str:
-        first = zip(
-            self.sources[self.owners()[:SHOWN]], self.targets[self.places[:SHOWN]], self.weights
-        )
-        return table_text(
-            repr(self), [dict(zip(("source", "target", "weight"), row)) for row in first]
-        )
+        sources, targets = self.sources[self.owners()[:SHOWN]], self.targets[self.places[:SHOWN]]
+        return table_of(repr(self), source=sources, target=targets, weight=self.weights)
 
     def owners(self) -> NDArray[numpy.int64]:
         """Returns the place of the source of each target.
@@ -97,13 +94,9 @@ class Near:
         """
         import pandas
 
-        columns = {
-            "source": self.sources[self.owners()],
-            "target": self.targets[self.places],
-            "place": self.places,
-            "weight": self.weights,
-        }
-        return pandas.DataFrame(columns)
+        sources, targets = self.sources[self.owners()], self.targets[self.places]
+        return pandas.DataFrame(
+            {"source": sources, "target": targets, "place": self.places, "weight": self.weights})
 
     def to_sparse(self) -> scipy.sparse.csr_matrix:
         """Returns the same as a sparse matrix.
@@ -125,10 +118,6 @@ class Near:
         matrix = csr_matrix((self.weights.copy(), self.places.copy(), self.offsets), shape)
         matrix.sort_indices()
         return matrix
-
-
-# Rows of a table in a notebook.
-SHOWN = 10
 
 
 class Columns(NamedTuple):
@@ -158,13 +147,8 @@ class Nearest(OnMap, Columns):
 
     @classmethod
     def of(
-        cls,
-        places: NDArray[numpy.int64],
-        weights: NDArray,
-        sources: NDArray,
-        targets: NDArray,
-        layers: Layers,
-        at: NDArray | None = None,
+        cls, places: NDArray[numpy.int64], weights: NDArray, sources: NDArray, targets: NDArray,
+        layers: Layers, at: NDArray | None = None,
     ) -> Nearest:
         """The columns, with the labels of the question."""
         found = cls(places, weights, places == NO_WALK)
@@ -172,10 +156,8 @@ class Nearest(OnMap, Columns):
         return found
 
     def __repr__(self) -> str:
-        return (
-            f"<the nearest {self.places.shape[1]:,} of {len(self.targets):,} targets of "
-            f"{len(self.sources):,} sources>"
-        )
+        count, targets = self.places.shape[1], len(self.targets)
+        return f"<the nearest {count:,} of {targets:,} targets of {len(self.sources):,} sources>"
 
     def labels(self, place: int) -> NDArray:
         """Returns the labels of the targets at a rank, None where there is no target.
@@ -191,11 +173,7 @@ class Nearest(OnMap, Columns):
         """
         found: NDArray = numpy.full(len(self.sources), None, numpy.object_)
         is_there = ~self.mask[:, place]
-        for row, label in zip(
-            numpy.flatnonzero(is_there).tolist(),
-            self.targets[self.places[is_there, place]].tolist(),
-        ):
-            found[row] = label
+        found[is_there] = objects_of(self.targets[self.places[is_there, place]].tolist())
         return found
 
     def to_frame(self) -> pandas.DataFrame:
@@ -214,20 +192,13 @@ class Nearest(OnMap, Columns):
         """
         import pandas
 
-        rows, count = self.places.shape
-        owners, ranks = numpy.repeat(numpy.arange(rows), count), numpy.tile(
-            numpy.arange(1, count + 1), rows
-        )
-        places, mask = self.places.reshape(-1), self.mask.reshape(-1)
+        owners, ranks = (column.reshape(-1) for column in numpy.indices(self.places.shape))
+        places, weights, mask = (column.reshape(-1) for column in self)
         targets = numpy.full(len(places), None, object)
         targets[~mask] = self.targets[places[~mask]]
-        columns = {
-            "source": self.sources[owners],
-            "rank": ranks,
-            "target": targets,
-            "place": masked(places, mask),
-        }
-        frame = pandas.DataFrame({**columns, "weight": masked(self.weights.reshape(-1), mask)})
+        columns = {"source": self.sources[owners], "rank": ranks + 1, "target": targets}
+        columns |= {"place": masked(places, mask), "weight": masked(weights, mask)}
+        frame = pandas.DataFrame(columns)
         return frame.astype({"target": "Int64"}) if self.targets.dtype == numpy.int64 else frame
 
     def to_geojson(self) -> dict:
@@ -251,35 +222,23 @@ class Nearest(OnMap, Columns):
         if self.at is not None:
             at = [(x, y) for x, y in self.at[:count].tolist()]
         else:
-            at = [
-                self.layers.coordinates.of(node)
-                for node in self.layers.labels.nodes_of("sources", sources).tolist()
-            ]
-        values = zip(
-            sources, at, self.labels(0), self.weights[:, 0].tolist(), self.mask[:, 0].tolist()
-        )
-        return [
-            geojson.feature(
-                place,
-                {"source": source, "target": target, "weight": None if is_masked else weight},
-                "Point",
-            )
-            for source, place, target, weight, is_masked in values
-        ]
+            nodes = self.layers.labels.nodes_of("sources", sources).tolist()
+            at = [self.layers.coordinates.of(node) for node in nodes]
+        weights = self.weights[:, 0].astype(object)
+        weights[self.mask[:, 0]] = None
+        rows = zip(sources, self.labels(0), weights)
+        properties = [dict(zip(("source", "target", "weight"), row)) for row in rows]
+        return [geojson.feature(place, own, "Point") for place, own in zip(at, properties)]
 
     def _repr_html_(self) -> str:
-        rows = zip(self.sources[:SHOWN].tolist(), self.labels(0), self.weights[:, 0].tolist())
-        return table_text(
-            repr(self), [dict(zip(("source", "target", "weight"), row)) for row in rows]
-        )
+        sources, weights = self.sources[:SHOWN].tolist(), self.weights[:, 0].tolist()
+        return table_of(repr(self), source=sources, target=self.labels(0), weight=weights)
 
 
 def masked(values: NDArray, mask: NDArray[numpy.bool_]) -> Any:
     """A column of pandas, NA where the mask is True; whole numbers become `Int64`."""
     import pandas
 
-    return (
-        pandas.arrays.IntegerArray(values.copy(), mask.copy())
-        if values.dtype == numpy.int64
-        else numpy.where(mask, numpy.nan, values)
-    )
+    if values.dtype == numpy.int64:
+        return pandas.arrays.IntegerArray(values.copy(), mask.copy())
+    return numpy.where(mask, numpy.nan, values)

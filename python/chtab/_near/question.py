@@ -1,20 +1,21 @@
-"""Questions on near rows, and their rows from one handle of the library for C."""
+"""Questions on near rows between nodes or spots on roads, and their rows."""
 from __future__ import annotations
 
 from collections.abc import Iterator, Sequence
 from dataclasses import dataclass
-from typing import TYPE_CHECKING
+from typing import TYPE_CHECKING, Any
 
 import numpy
 
 from chtab._engine import library
 from chtab._engine.interruptible import LONG, interruptible
 from chtab.errors import ProgramFault, mismatch
-from chtab._near.rows import Rows
+from chtab._near.rows import Rows, rows_of
 
 if TYPE_CHECKING:
     from numpy.typing import NDArray
     from chtab._engine.deadlines import Deadline
+    from chtab._roads.snapping import Spots
     from chtab.typing import Floats, Integers
 
 # The most that one call of the library gives: pairs, and the rows that it copies with them.
@@ -30,30 +31,19 @@ SWEPT, FEW = 1 << 24, 4
 SHARE = 1 / 4
 # How many sources are sampled to estimate the pairs of all rows.
 SAMPLE = 64
+# The most cells of a table of trips.
+CELLS = 1 << 22
 
 
 @dataclass(frozen=True)
-class NearQuestion:
-    """Which targets are near some sources.
+class Question:
+    """Which targets, `count` of them at most and within a weight, are near each source."""
 
-    Parameters
-    ----------
-    sources : array of int64, optional
-        Nodes, which count from 1; None: all nodes.
-    targets : array of int64
-        Nodes.
-    count : int, optional
-        The most targets of a row, from 1 on.
-    within : int, optional
-        The largest weight of a target, from 0 to 2^60.
-    is_from : bool
-        Whether weights are those from the targets to the sources.
-    """
-
-    sources: Integers | None
-    targets: Integers
+    sources: Any
+    targets: Any
     count: int | None = None
     within: int | None = None
+    # Whether weights are those from the targets to the sources.
     is_from: bool = False
 
     def height(self, nodes: int) -> int:
@@ -64,28 +54,49 @@ class NearQuestion:
         """The most pairs of a row."""
         return len(self.targets) if self.count is None else min(self.count, len(self.targets))
 
-    def limit(self) -> int:
-        """The limit, as the library takes it."""
-        return library.NO_LIMIT if self.within is None else self.within
+
+@dataclass(frozen=True)
+class NearQuestion(Question):
+    """A question between nodes, which count from 1; `sources` are None for all nodes."""
+
+    sources: Integers | None
+    targets: Integers
+
+
+@dataclass(frozen=True)
+class SpotQuestion(Question):
+    """A question between spots on roads, whose rows come from tables of trips."""
+
+    sources: Spots
+    targets: Spots
+    trips: Any = None
+
+    def portions(self) -> Iterator[tuple[int, Rows]]:
+        """Yields the rows in portions, each with the place of its first row."""
+        height = max(1, CELLS // max(1, len(self.targets)))
+        for start in range(0, len(self.sources), height):
+            some = self.sources[start:start + height]
+            if self.is_from:
+                table = self.trips.table(self.targets, some, self.within).T
+            else:
+                table = self.trips.table(some, self.targets, self.within)
+            yield start, rows_of_table(table, self.most())
+
+
+def rows_of_table(table: Integers, most: int) -> Rows:
+    """The first cells of each row of a table by weight and place, without those below 0."""
+    counts = numpy.minimum((table >= 0).sum(axis=1), most)
+    ordered: Any = numpy.where(table >= 0, table, numpy.iinfo(numpy.int64).max)
+    order = numpy.argsort(ordered, axis=1, kind="stable")
+    is_first = numpy.arange(table.shape[1]) < counts[:, None]
+    return rows_of(counts, order[is_first], numpy.take_along_axis(table, order, 1)[is_first])
 
 
 class NearRows:
-    """The rows of a question, which a handle makes. The handle keeps the targets meanwhile.
-
-    Parameters
-    ----------
-    handle : library.Handle
-        The handle.
-    question : NearQuestion
-        At most 65,536 targets.
-    nodes : int
-        How many nodes the network has.
-    deadline : deadlines.Deadline
-        Until when rows have to be there.
-    """
+    """The rows of a question with at most 65,536 targets, which a handle makes and keeps."""
 
     def __init__(
-        self, handle: library.Handle, question: NearQuestion, nodes: int, deadline: Deadline,
+        self, handle: library.Handle, question: Question, nodes: int, deadline: Deadline,
     ) -> None:
         self.handle, self.question, self.nodes, self.deadline = handle, question, nodes, deadline
         targets = library.nodes_of(question.targets, nodes)
@@ -94,7 +105,8 @@ class NearRows:
         else:
             self.sources = library.nodes_of(question.sources, nodes)
         count = library.ALL if question.count is None else min(question.count, library.ALL)
-        words = targets, question.limit(), count, question.is_from
+        limit = library.NO_LIMIT if question.within is None else question.within
+        words = targets, limit, count, question.is_from
         interruptible(len(targets), handle.keep_places, *words)
         deadline.check()
         self.together = PAIRS if self.is_swept() else TOGETHER if deadline.is_open else SHORT
@@ -111,8 +123,7 @@ class NearRows:
         return True
 
     def has_few(self) -> bool:
-        """Whether the rows of all nodes have few enough pairs for a sweep. If the bound of a row is
-        too large, a sample of nodes decides."""
+        """Whether a sweep's rows have few pairs: by their bound, or else by a sample of nodes."""
         enough, most = max(SWEPT, FEW * self.nodes), self.question.most()
         if self.nodes * most <= enough:
             return True
@@ -134,9 +145,8 @@ class NearRows:
             start += len(ends)
 
     def sums(self, values: NDArray[numpy.uint64], limits: Sequence[int]) -> Floats:
-        """For each source, column and limit the sum of the values of the targets within the limit,
-        float64 (n, c, m). The values are whole numbers, uint64 (l, c), and the sum of each column
-        is small enough to be exact as a float."""
+        """For each source, column and limit the sum of the values (l, c) of the targets within it
+        (n, c, m); the values are whole numbers, whose sums are exact as floats."""
         columns = [numpy.ascontiguousarray(column) for column in values.T]
         within = numpy.array(limits, numpy.uint64)
         found = numpy.zeros((len(self.sources), len(columns), len(limits)))

@@ -10,8 +10,7 @@ import numpy
 
 from chtab._files.measures import MOST
 from chtab._near import blocks, sums
-from chtab._near.question import NearQuestion
-from chtab._near.spots import SpotQuestion
+from chtab._near.question import NearQuestion, Question, SpotQuestion
 from chtab._roads.pairs import nodes_in
 from chtab._roads.snapping import Spots
 
@@ -27,8 +26,7 @@ DIRECTIONS = "to", "from"
 
 @dataclass(frozen=True)
 class Asked:
-    """The nodes or spots of a question, as its caller named them: sources, None for all nodes, and
-    targets."""
+    """The sources, None for all nodes, and the targets of a question."""
 
     trips: Trips
     sources: Integers | Spots | None
@@ -40,16 +38,15 @@ class Asked:
         """The files of the network."""
         return self.trips.layers
 
-    def near(self, count: int | None, within: int | None) -> blocks.Question:
-        """The question to the library, with those nodes where trips end in place of the ones that
-        trips lead to. A row has at most all targets."""
+    def near(self, count: int | None, within: int | None) -> Question:
+        """The question to the library, where trips end at other nodes with these."""
         most = max(1, len(self.targets))
         count = None if count is None else min(blocks.count_in("count", count), most)
         sources, targets, layers = self.sources, self.targets, self.layers
         if isinstance(sources, Spots) or isinstance(targets, Spots):
             nodes = layers.all_nodes if sources is None else sources
             ends = self.spots_of(nodes, 0), self.spots_of(targets, 1)
-            return SpotQuestion(self.trips, *ends, count, within, self.is_from)
+            return SpotQuestion(*ends, count, within, self.is_from, self.trips)
         if layers.has_turns and self.is_from:
             sources = None if sources is None else layers.ends_of(sources)
         elif layers.has_turns:
@@ -57,26 +54,22 @@ class Asked:
         return NearQuestion(sources, targets, count, within, self.is_from)
 
     def spots_of(self, nodes: Integers | Spots, side: int) -> Spots:
-        """Spots at nodes, or spots as they are. Those of sources and of targets are on no road
-        together."""
+        """Spots at nodes, or spots as they are. Nodes of both sides are on no road together."""
         if isinstance(nodes, Spots):
             return nodes
         return self.layers.roads.at_nodes(nodes, self.layers.ends_of(nodes), side)
 
     def source_labels(self) -> LabelArray:
         """The labels of sources, or the places of spots in their list."""
-        if self.sources is None:
-            nodes = self.layers.all_nodes
-            return (
-                self.layers.labels.of(nodes) if self.layers.has_turns else self.layers.labels.values
-            )
-        return self.labels_of(self.sources)
+        if self.sources is None and not self.layers.has_turns:
+            return self.layers.labels.values
+        return self.labels_of(self.layers.all_nodes if self.sources is None else self.sources)
 
     def labels_of(self, nodes: Integers | Spots) -> LabelArray:
         """The labels of nodes, or the places of spots in their list."""
-        return (
-            numpy.arange(len(nodes)) if isinstance(nodes, Spots) else self.layers.labels.of(nodes)
-        )
+        if isinstance(nodes, Spots):
+            return numpy.arange(len(nodes))
+        return self.layers.labels.of(nodes)
 
     def labels(self) -> tuple[LabelArray, LabelArray]:
         """The labels of sources and targets."""
@@ -88,8 +81,7 @@ class Asked:
 
 
 class Values(NamedTuple):
-    """The question of an aggregate: its nodes, the values of targets (l, c), the names of their
-    columns or None, and whether the caller gave several columns."""
+    """The question of an aggregate: nodes, values (l, c), names of columns or None, if several."""
 
     asked: Asked
     values: Floats
@@ -98,8 +90,7 @@ class Values(NamedTuple):
 
 
 class Limits(NamedTuple):
-    """Limits in the unit of the graph and in that of the caller, as they were given, and whether
-    that was a list."""
+    """Limits of the graph, of the caller, as they were given; and whether that was a list."""
 
     whole: list[int]
     numbers: list[Any]
@@ -115,8 +106,7 @@ def asked(trips: Trips, sources: Any, targets: Any, direction: str) -> Asked:
 
 
 def sources_in(trips: Trips, sources: Any) -> Integers | Spots | None:
-    """The nodes of labels, or spots; for None all nodes that are no copies, or None where none
-    is."""
+    """The nodes of labels, or spots; for None all nodes, None for these where none is a copy."""
     if sources is None:
         return trips.layers.all_nodes if trips.layers.has_turns else None
     return ends_in(trips, "sources", sources)

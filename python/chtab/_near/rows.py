@@ -14,8 +14,7 @@ if TYPE_CHECKING:
 
 @dataclass(frozen=True)
 class Rows:
-    """Rows, one after the other. Row i has the places and weights `offsets[i]` to `offsets[i + 1] -
-    1`, all int64."""
+    """Row i has the places and weights `offsets[i]` to `offsets[i + 1] - 1`, all int64."""
 
     offsets: Integers
     places: Integers
@@ -57,8 +56,9 @@ def below(parts: Sequence[Rows]) -> Rows:
 
 
 def beside(parts: Sequence[tuple[int, Rows]], count: int | None = None) -> Rows:
-    """Joins rows of the same sources for several parts of the targets, and keeps the first pairs of
-    each row, or all. `parts` are pairs of the place at which a part starts and its rows."""
+    """Joins the rows of the same sources for parts of targets, up to `count` pairs in each."""
+    if len(parts) == 1:
+        return parts[0][1]
     owners = numpy.concatenate([rows.owners() for _, rows in parts])
     places = numpy.concatenate([rows.places + first for first, rows in parts])
     weights = numpy.concatenate([rows.weights for _, rows in parts])

@@ -35,29 +35,14 @@ DECAYING = "sum", "mean", "count", "std"
 
 
 class Asked(NamedTuple):
-    """The question of an aggregate.
-
-    Attributes
-    ----------
-    kind : str
-        One of `KINDS`.
-    values : array of float64, shape (l, c)
-        The values of each target, one for each column.
-    limits : list of int
-        The limits, in the unit of the graph.
-    given : list of number
-        The limits, in the unit of the caller.
-    share : callable, optional
-        The share of a value that counts at each of some weights within a limit, both in the unit of
-        the caller; None: all of it.
-    measure : measures.Measure
-        The unit of the caller.
-    """
+    """The question of an aggregate, one of `KINDS`, over the values of targets (l, c)."""
 
     kind: str
     values: Floats
+    # The limits in the unit of the graph and in that of the caller, and the caller's unit.
     limits: list[int]
     given: list[Any]
+    # The share of a value that counts at weights within a limit of the caller; None: all of it.
     share: Share | None
     measure: Measure
 
@@ -71,8 +56,7 @@ class Asked(NamedTuple):
 
 
 def share_by(decay: Decay, kind: str, limits: Sequence[Any]) -> Share | None:
-    """A function that gives the share of a value that counts at each of some weights within a
-    limit."""
+    """The share of a value that counts at each of some weights within a limit."""
     if decay is not None and kind not in DECAYING:
         raise ValueError(f"the {kind} has no decay; {', '.join(DECAYING)} have one")
     if decay in (LINEAR, EXPONENTIAL) and 0 in limits:
@@ -93,16 +77,13 @@ def shares_of(decay: Callable[[Any], Any], weights: Weights) -> Floats:
     """The shares that a caller's own decay gives, a number for each weight."""
     shares = numpy.asarray(decay(weights), float)
     if shares.shape not in ((), weights.shape):
-        raise ValueError(
-            f"decay gave the shape {shares.shape} for weights of the shape {weights.shape}"
-        )
+        text = f"decay gave the shape {shares.shape} for weights of the shape {weights.shape}"
+        raise ValueError(text)
     place = columns.first_of(~((shares >= 0) & (shares < numpy.inf)))
     if place is not None:
         weight = numpy.broadcast_to(weights, shares.shape or weights.shape).flat[place]
-        raise ValueError(
-            f"decay gave {shares.flat[place]} for the weight {weight}: a share is a number from 0 "
-            "on"
-        )
+        text = f"decay gave {shares.flat[place]} for the weight {weight}"
+        raise ValueError(f"{text}: a share is a number from 0 on")
     return numpy.broadcast_to(shares, weights.shape)
 
 
@@ -110,37 +91,24 @@ def shares_of(decay: Callable[[Any], Any], weights: Weights) -> Floats:
 
 
 def values_in(
-    values: Any,
-    targets: Any,
-    nodes_of: Callable[[str, Any], Integers],
-    all_nodes: Integers,
+    values: Any, targets: Any, nodes_of: Callable[[str, Any], Integers], all_nodes: Integers,
     with_zeros: bool = False,
 ) -> tuple[Integers, Floats, list[Any] | None]:
-    """The targets and their values: nodes (l,) and float64 (l, c), with the names of the columns,
-    or None if they have no names.
-
-    `nodes_of` gives the nodes of labels. Without targets, the index of a Series, frame or dict has
-    the labels, and an array has a value for each of all nodes.
-    """
+    """The targets (l,), their values (l, c), and names of columns or None; without targets the
+    index or keys of values have their labels, and an array has a value for each of all nodes."""
     if targets is not None:
         values, targets = row_index.matched(("values", "targets"), (values, targets))
     if targets is None and hasattr(values, "keys"):
-        targets, values = (
-            (values.index, values)
-            if hasattr(values, "index")
-            else ([*values.keys()], [*values.values()])
-        )
+        has_index = hasattr(values, "index")
+        targets = values.index if has_index else [*values.keys()]
+        values = values if has_index else [*values.values()]
     nodes = all_nodes if targets is None else nodes_of("targets", targets)
     if numpy.ndim(values) == 0:
         one = values[()] if isinstance(values, numpy.ndarray) else values
         values = numpy.repeat(columns.numbers_in("values", [one], True), len(nodes))
     names = list(values.columns) if hasattr(values, "columns") else None
-    found = numpy.column_stack(
-        [
-            numpy.zeros((len(nodes), 0)),
-            *(column_in(*each, nodes, targets is None) for each in columns_of(values, names)),
-        ]
-    )
+    own = [column_in(*each, nodes, targets is None) for each in columns_of(values, names)]
+    found = numpy.column_stack([numpy.zeros((len(nodes), 0)), *own])
     if targets is not None or with_zeros:
         return nodes, found, names
     is_some = (found != 0).any(axis=1)
@@ -152,11 +120,7 @@ def columns_of(values: Any, names: list[Any] | None) -> list[tuple[str, Any]]:
     if names is not None:
         return [(f"values[{name!r}]", values.iloc[:, place]) for place, name in enumerate(names)]
     if numpy.ndim(values) == 2:
-        rows = (
-            numpy.array(values, object)
-            if isinstance(values, list | tuple)
-            else numpy.asarray(values)
-        )
+        rows = numpy.asarray(values, object if isinstance(values, list | tuple) else None)
         return [(f"values[:, {place}]", rows[:, place]) for place in range(rows.shape[1])]
     return [("values", values)]
 
@@ -164,15 +128,10 @@ def columns_of(values: Any, names: list[Any] | None) -> list[tuple[str, Any]]:
 def column_in(name: str, column: Any, nodes: Integers, are_all: bool) -> Floats:
     """The finite numbers of one column, float64."""
     found = columns.numbers_in(name, column, True).astype(float)
-    place = columns.first_of(~numpy.isfinite(found))
-    if place is not None:
-        raise columns.refused(name, place, f"{found[place]} is no value")
+    columns.refuse(name, ~numpy.isfinite(found), lambda row: f"{found[row]} is no value")
     if len(found) != len(nodes):
-        raise DataFault(
-            f"{name} has {len(found):,} rows, and there are {len(nodes):,} "
-            f"{'nodes' if are_all else 'targets'}",
-            name,
-        )
+        text = f"{len(nodes):,} {'nodes' if are_all else 'targets'}"
+        raise DataFault(f"{name} has {len(found):,} rows, and there are {text}", name)
     return found
 
 
@@ -182,25 +141,17 @@ def column_in(name: str, column: Any, nodes: Integers, are_all: bool) -> Floats:
 def aggregates(
     engine: InProcess, question: Question, asked: Asked, workers: Any = 1, progress: Any = None
 ) -> Floats:
-    """The aggregates of the values of targets for each source, column and limit, float64 (n, c, m).
-    The limit of the question itself is the largest of these. Where no target is near, a sum and a
-    count are 0, and the others NaN."""
+    """The aggregates for each source, column and limit (n, c, m); 0 or NaN over no target."""
     height = question.height(engine.nodes)
     if asked.kind == "median":
         return medians(engine, question, asked, workers, progress)
-    if (
-        isinstance(question, NearQuestion)
-        and workers == 1
-        and progress is None
-        and are_counted(question, asked)
-    ):
+    is_plain = workers == 1 and progress is None
+    if is_plain and isinstance(question, NearQuestion) and are_counted(question, asked):
         return blocks.sums(engine, question, asked.values.astype(numpy.uint64), asked.limits)
 
     def make(block: blocks.Block, portions: Portions) -> State:
-        own, of_block = asked.of(
-            slice(block.column, block.column + len(block.question.targets))
-        ), block.question.height(engine.nodes)
-        state = begun(asked.kind, asked.shape(of_block))
+        own = asked.of(slice(block.column, block.column + len(block.question.targets)))
+        state = begun(asked.kind, asked.shape(block.question.height(engine.nodes)))
         for start, rows in portions:
             for place, part in enumerate(state_of(rows, own)):
                 state[place][start:start + len(rows)] = part
@@ -215,15 +166,12 @@ def aggregates(
 
 
 def are_counted(question: Question, asked: Asked) -> bool:
-    """Whether values are summed as whole numbers: none is below 0, and the sum of all is small
-    enough to be exact as a float."""
-    values = asked.values
-    is_plain = (
-        asked.kind == "sum" and asked.share is None and 0 < len(question.targets) <= blocks.LENGTH
-    )
-    return is_plain and bool(
-        (values >= 0).all() and (values == numpy.floor(values)).all() and values.sum() <= EXACT
-    )
+    """Whether values are summed as whole numbers, whose sums are exact as floats."""
+    values, count = asked.values, len(question.targets)
+    if asked.kind != "sum" or asked.share is not None or not 0 < count <= blocks.LENGTH:
+        return False
+    are_whole = (values >= 0).all() and (values == numpy.floor(values)).all()
+    return bool(are_whole and values.sum() <= EXACT)
 
 
 def begun(kind: str, shape: tuple[int, ...]) -> State:
@@ -241,16 +189,12 @@ def state_of(rows: near_rows.Rows, asked: Asked) -> State:
         is_near = rows.weights <= limit
         near, values = owners[is_near], asked.values[rows.places[is_near]]
         if asked.kind in ("min", "max"):
-            extremes(
-                state[0][:, :, place],
-                near,
-                values,
-                numpy.minimum if asked.kind == "min" else numpy.maximum,
-            )
+            least = numpy.minimum if asked.kind == "min" else numpy.maximum
+            extremes(state[0][:, :, place], near, values, least)
             continue
-        shares = (
-            numpy.ones(len(near)) if asked.share is None else asked.share(weights[is_near], given)
-        )
+        shares = numpy.ones(len(near))
+        if asked.share is not None:
+            shares = asked.share(weights[is_near], given)
         for column in range(values.shape[1]):
             parts = PARTS[asked.kind](near, values[:, column], shares, len(rows))
             for array, part in zip(state, parts):
@@ -278,17 +222,14 @@ def joined_moments(first: State, second: State) -> State:
     whole = total + other
     apart = other_mean - mean
     return (
-        whole,
-        mean + quotient(apart * other, whole, 0.0),
-        squares + other_squares + quotient(apart**2 * total * other, whole, 0.0),
-    )
+        whole, mean + quotient(apart * other, whole, 0.0),
+        squares + other_squares + quotient(apart**2 * total * other, whole, 0.0))
 
 
 def quotient(above: NDArray[Any], below: NDArray[Any], otherwise: float = numpy.nan) -> Floats:
     """The quotient where the divisor is not 0."""
-    return numpy.divide(
-        above, below, out=numpy.full(numpy.shape(above), otherwise), where=below != 0
-    )
+    found = numpy.full(numpy.shape(above), otherwise)
+    return numpy.divide(above, below, out=found, where=below != 0)
 
 
 def added(first: State, second: State) -> State:
@@ -300,9 +241,7 @@ PARTS: dict[str, Callable[..., State]] = {
     "sum": lambda owners, values, shares, count: [numpy.bincount(owners, values * shares, count)],
     "count": lambda owners, values, shares, count: [numpy.bincount(owners, shares, count)],
     "mean": lambda owners, values, shares, count: [
-        numpy.bincount(owners, values * shares, count),
-        numpy.bincount(owners, shares, count),
-    ],
+        numpy.bincount(owners, values * shares, count), numpy.bincount(owners, shares, count)],
     "std": moments,
 }
 JOINED: dict[str, Callable[[State, State], State]] = {
@@ -353,7 +292,6 @@ def medians_of(out: Floats, rows: near_rows.Rows, asked: Asked) -> None:
         for column in range(asked.values.shape[1]):
             values = asked.values[rows.places[is_near], column]
             values = values[numpy.lexsort([values, near])]
-            low, high = (
-                firsts[is_some] + step // 2 for step in (counts[is_some] - 1, counts[is_some])
-            )
+            steps = counts[is_some] - 1, counts[is_some]
+            low, high = (firsts[is_some] + step // 2 for step in steps)
             out[is_some, column, place] = (values[low] + values[high]) / 2

@@ -1,5 +1,5 @@
-"""Arcs, places, and the roads between nodes: spots on roads, trips between them, routes, and what is
-reached.
+"""Arcs, places, and the roads between nodes: spots on roads, trips between them, routes, and what
+is reached.
 
 | module | what it holds |
 |---|---|
@@ -20,5 +20,4 @@ reached.
 | `legs` | the best ways between spots |
 | `routes` | routes and trips as callers get them |
 | `reach` | polygons of what is reached |
-| `picture` | drawings of all of these |
 """

@@ -3,6 +3,7 @@ roads, ways and streets."""
 from __future__ import annotations
 
 import functools
+import itertools
 import re
 from collections.abc import Callable, Iterable, Sequence
 from typing import TYPE_CHECKING, Any
@@ -24,13 +25,13 @@ if TYPE_CHECKING:
 WAY = re.compile(r"way/(-?\d+)", re.ASCII)
 NAMES = (
     "a row, (source, target), (source, target, key), {node, node}, (node,), spots of `snap`, "
-    "'way/NUMBER' or a street"
-)
-# The kinds of names: rows, spots, ways and streets; those of both directions between two nodes; and by
-# their lengths those that name nodes.
+    "'way/NUMBER' or a street")
+# The kinds of names: rows, spots, ways and streets; those of both directions between two nodes; and
+# by their lengths those that name nodes.
 ROW, SPOTS, WAYS, STREETS, BOTH = "row", "spots", "ways", "streets", "both"
 NODE, PAIR, EDGE, OTHER = "node", "pair", "edge", "other"
 BY_NODES = {1: NODE, 2: PAIR, 3: EDGE}
+NOTHING = Found(*numpy.zeros((2, 0), numpy.int64))
 
 
 def kind_of(name: Any) -> str:
@@ -47,14 +48,7 @@ def kind_of(name: Any) -> str:
 
 
 class ArcNames:
-    """Finds the arcs that names stand for, all names of a kind together. What is refused names its
-    place in the list.
-
-    Parameters
-    ----------
-    layers : Layers
-        The files of the network.
-    """
+    """Finds the arcs that names stand for, all of a kind together. A fault names its place."""
 
     def __init__(self, layers: Layers) -> None:
         self.layers, self.rows, self.row_labels = layers, layers.rows, layers.row_labels
@@ -89,8 +83,7 @@ class ArcNames:
     def by_node(self) -> Groups:
         return Groups.of(
             numpy.concatenate([self.tails[self.between], self.heads[self.between]]),
-            numpy.tile(self.between, 2),
-        )
+            numpy.tile(self.between, 2))
 
     def key_of(self, tails: Integers, heads: Integers) -> Integers:
         """A number for each pair of crossings."""
@@ -104,9 +97,7 @@ class ArcNames:
             return self.of_index(name, given)
         if isinstance(given, numpy.ndarray) and given.ndim == 1 and given.dtype.kind in "iu":
             return self.of_rows(name, numpy.arange(len(given)), given)
-        return self.of_list(
-            name, given.tolist() if isinstance(given, numpy.ndarray) else list(given)
-        )
+        return self.of_list(name, list(values_of(given)))
 
     def of_list(self, name: str, names: Sequence[Any]) -> Found:
         """The arcs of names, in the order of these."""
@@ -114,32 +105,21 @@ class ArcNames:
         for place, each in enumerate(names):
             by_kind.setdefault(kind_of(each), []).append(place)
         finders: dict[str, Callable[..., Found]] = {
-            ROW: self.of_rows,
-            SPOTS: self.of_spots,
-            WAYS: self.of_ways,
-            STREETS: self.of_streets,
-            BOTH: self.of_both,
-            NODE: self.of_nodes,
-            PAIR: self.of_tuples,
-            EDGE: self.of_tuples,
+            ROW: self.of_rows, SPOTS: self.of_spots, WAYS: self.of_ways, STREETS: self.of_streets,
+            BOTH: self.of_both, NODE: self.of_nodes, PAIR: self.of_tuples, EDGE: self.of_tuples,
             OTHER: self.of_others,
         }
-        found = all_of(
+        calls = (
             functools.partial(
-                finders[kind], name, numpy.array(places), [names[place] for place in places]
-            )
-            for kind, places in by_kind.items()
-        )
-        arcs, places = (
-            numpy.concatenate([numpy.zeros(0, numpy.int64), *column])
-            for column in (zip(*found) if found else ((), ()))
-        )
+                finders[kind], name, numpy.array(own), [names[place] for place in own])
+            for kind, own in by_kind.items())
+        found = all_of(calls)
+        arcs, places = (numpy.concatenate(column) for column in zip(NOTHING, *found))
         order = numpy.argsort(places, kind="stable")
         return Found(arcs[order], places[order])
 
     def of_index(self, name: str, index: Any) -> Found:
-        """The arcs that the labels of an index of pandas name: rows of the frame, or else as a list
-        names them."""
+        """The arcs that an index of pandas names: rows of the frame, or else as a list does."""
         rows = self.rows_of_index(name, index)
         if rows is not None:
             return self.by_row.of_each(rows.items).through(rows.places)
@@ -149,63 +129,45 @@ class ArcNames:
             except DataFault as fault:
                 raise DataFault(
                     f"{fault}; values in the order of rows are an array, as `to_numpy()` gives it",
-                    name,
-                    fault.row,
-                ) from None
-        levels = [numpy.asarray(index.get_level_values(level)) for level in range(index.nlevels)]
-        if len(levels) not in (2, 3):
-            raise DataFault(
-                f"{name} has an index of {len(levels)} levels; those of arcs are source and "
-                "target, or these and key",
-                name,
-            )
-        return self.of_ends(name, numpy.arange(len(index)), *levels)
+                    name, fault.row) from None
+        if index.nlevels > 3:
+            text = f"{name} has an index of {index.nlevels} levels; those of arcs are source and"
+            raise DataFault(f"{text} target, or these and key", name)
+        return self.of_ends(name, numpy.arange(len(index)), *levels_of(index))
 
     def rows_of_index(self, name: str, index: Any) -> Found | None:
-        """The rows that the labels of an index of pandas name. None if these are other names of
-        arcs."""
+        """The rows that the labels of an index of pandas name; None if these are other names."""
         found = self.row_labels.found(name, index)
         if found is None and len(index) == self.row_labels.count and self.are_in_order(index):
             found = Found(numpy.arange(len(index)), numpy.arange(len(index)))
         return found
 
     def are_in_order(self, index: Any) -> bool:
-        """Whether an index has the ends of each row that has an arc, and its key if rows have keys,
-        in the order of rows."""
+        """Whether an index has the ends of rows with arcs, and keys if there are some, in order."""
         if not row_index.is_of_levels(index) or index.nlevels > 3:
             return False
-        sources, targets, *keys = (
-            numpy.asarray(index.get_level_values(level)) for level in range(index.nlevels)
-        )
+        (*ends, keys), nodes_of = [*levels_of(index), None][:3], self.layers.labels.nodes_of
         try:
-            tails, heads = (
-                self.layers.crossings[self.layers.labels.nodes_of("index", ends)]
-                for ends in (sources, targets)
-            )
+            tails, heads = (self.layers.crossings[nodes_of("index", each)] for each in ends)
         except (ValueError, TypeError):
             return False
         are_same = (self.tails == tails[self.rows]) & (self.heads == heads[self.rows])
-        if keys:
-            are_same &= are_equal(self.keys, keys[0])[self.rows] if self.keys is not None else False
+        if keys is not None:
+            are_same &= are_equal(self.keys, keys)[self.rows] if self.keys is not None else False
         return bool((numpy.bincount(self.rows, are_same) > 0)[self.rows].all())
 
     # Names of one kind, at some places of the list.
 
     def of_rows(self, name: str, places: Integers, rows: Any) -> Found:
         """The arcs of rows. A row whose arcs are closed has none."""
-        count = self.row_labels.count
-        column = (
-            rows
-            if isinstance(rows, numpy.ndarray)
-            else numpy.array([row if 0 <= row < count else -1 for row in rows], numpy.int64)
-        )
+        count, column = self.row_labels.count, rows
+        if not isinstance(rows, numpy.ndarray):
+            column = numpy.array([row if 0 <= row < count else -1 for row in rows], numpy.int64)
         outside = columns.first_of((column < 0) | (column >= count))
         if outside is not None:
             raise refused(
-                name,
-                int(places[outside]),
-                f"there is no row {rows[outside]} of arcs; they are from 0 to {count - 1:,}",
-            )
+                name, int(places[outside]),
+                f"there is no row {rows[outside]} of arcs; they are from 0 to {count - 1:,}")
         self.row_labels.see_that_plain(name, places, column)
         return self.by_row.of_each(column).through(places)
 
@@ -215,9 +177,8 @@ class ArcNames:
 
     def of_nodes(self, name: str, places: Integers, names: Sequence[Any]) -> Found:
         """The arcs to and from nodes."""
-        return self.by_node.of_each(
-            self.crossings_of(name, places, [label for label, in names])
-        ).through(places)
+        crossings = self.crossings_of(name, places, [label for label, in names])
+        return self.by_node.of_each(crossings).through(places)
 
     def of_both(self, name: str, places: Integers, names: Sequence[Any]) -> Found:
         """The arcs between two nodes in either direction, of which there may be one alone."""
@@ -226,11 +187,8 @@ class ArcNames:
         keys = numpy.append(self.key_of(one, other), self.key_of(other, one))
         found = self.by_ends.of_each(keys)
         found = Found(found.items, found.places % len(places))
-        missing = columns.first_of(found.counts(len(places)) == 0)
-        if missing is not None:
-            text = f"there is no arc between the nodes of {quoted(names[missing])}"
-            raise refused(name, int(places[missing]), text)
-        return found.through(places)
+        return complete(name, places, found, lambda place: (
+            f"there is no arc between the nodes of {quoted(names[place])}"))
 
     def of_tuples(self, name: str, places: Integers, names: Sequence[Any]) -> Found:
         """The arcs between two nodes, or the edges with keys, all of one length."""
@@ -238,59 +196,37 @@ class ArcNames:
         return self.of_ends(name, places, sources, targets, *map(objects_in, keys))
 
     def of_ends(
-        self,
-        name: str,
-        places: Integers,
-        sources: Any,
-        targets: Any,
+        self, name: str, places: Integers, sources: Any, targets: Any,
         keys: LabelArray | None = None,
     ) -> Found:
-        """The arcs from nodes to others; with keys all arcs of the rows of these edges, which lead
-        back too in a graph without directions."""
+        """The arcs from nodes to others; with keys all arcs of the rows of these edges."""
         def named(place: int) -> str:
-            return quoted(
-                tuple(
-                    column[place:place + 1].tolist()[0]
-                    if isinstance(column, numpy.ndarray)
-                    else column[place]
-                    for column in parts
-                )
-            )
+            some = [column[place:place + 1] for column in parts]
+            return quoted(tuple(values_of(column)[0] for column in some))
 
         parts = [sources, targets] + [keys] * (keys is not None)
         tails, heads = all_of(
-            functools.partial(self.crossings_of, name, places, ends) for ends in (sources, targets)
-        )
+            functools.partial(self.crossings_of, name, places, ends) for ends in (sources, targets))
         found = self.by_ends.of_each(self.key_of(tails, heads))
         if keys is not None and len(places):
             if self.keys is None:
-                raise refused(
-                    name,
-                    int(places[0]),
-                    f"{named(0)} has a key, and the arcs of the network have none",
-                )
+                text = f"{named(0)} has a key, and the arcs of the network have none"
+                raise refused(name, int(places[0]), text)
             is_its = are_equal(self.keys[self.rows[found.items]], keys[found.places])
             found = Found(found.items[is_its], found.places[is_its])
-        missing = columns.first_of(found.counts(len(places)) == 0)
-        if missing is not None:
-            raise refused(name, int(places[missing]), f"there is no arc {named(missing)}")
-        if keys is not None:
-            found = self.by_row.of_each(self.rows[found.items]).through(found.places)
-        return found.through(places)
+        arcs = complete(name, places, found, lambda place: f"there is no arc {named(place)}")
+        if keys is None:
+            return arcs
+        return self.by_row.of_each(self.rows[arcs.items]).through(arcs.places)
 
     @forks.computed_once
     def keys(self) -> LabelArray | None:
         """The keys of rows, or None."""
-        labelling = self.layers.labelling
-        return (
-            None
-            if labelling is None or labelling.keys is None
-            else columns.objects_of(labelling.keys)
-        )
+        keys = None if self.layers.labelling is None else self.layers.labelling.keys
+        return None if keys is None else columns.objects_of(keys)
 
     def crossings_of(self, name: str, places: Integers, labels: Any) -> Integers:
-        """The crossings of labels of nodes. A crossing has several nodes if turns are restricted,
-        and is called by the first."""
+        """The crossings of labels; one of several nodes is called by the first."""
         return self.layers.crossings[self.nodes_of(name, places, labels)]
 
     def nodes_of(self, name: str, places: Integers, labels: Any) -> Integers:
@@ -303,45 +239,33 @@ class ArcNames:
                 pass
         # One of them is refused: the first of these is looked for.
         nodes = numpy.zeros(len(places), numpy.int64)
-        for number, (place, label) in enumerate(
-            zip(places.tolist(), labels.tolist() if isinstance(labels, numpy.ndarray) else labels)
-        ):
+        for number, (place, label) in enumerate(zip(places.tolist(), values_of(labels))):
             try:
                 [nodes[number]] = own.nodes_of(name, [label])
             except ValueError as fault:
                 raise refused(name, place, str(fault).removeprefix(f"{name}[0]: ")) from None
             except TypeError:
-                raise refused(
-                    name,
-                    place,
-                    f"{quoted(label)} is no label; labels are "
-                    f"{getattr(own, 'kind', columns.INTEGERS)}",
-                ) from None
+                kind = getattr(own, "kind", columns.INTEGERS)
+                text = f"{quoted(label)} is no label; labels are {kind}"
+                raise refused(name, place, text) from None
         return nodes
 
     def of_spots(self, name: str, places: Integers, given: Sequence[Spots]) -> Found:
-        """The arcs along the roads of spots, in the directions in which trips may leave these; for
-        a spot at a crossing, all arcs of the crossing."""
+        """The arcs along roads of spots, in open directions; at a crossing, all of its arcs."""
         roads, own = self.layers.roads, []
         for place, spots in zip(places.tolist(), given):
             found, are_here = roads.same_points(spots)
             for index in numpy.flatnonzero(~are_here)[:1]:
-                raise refused(
-                    name,
-                    place,
-                    f"spot {index} lies on no road of this network: `snap` of this one gives its "
-                    "own",
-                )
+                text = f"spot {index} lies on no road of this network: `snap` of this one gives its"
+                raise refused(name, place, f"{text} own")
             own.append(found)
         owners = numpy.repeat(places, [len(spots) for spots in own])
         numbers, parts, sides = (
             numpy.concatenate([getattr(spots, part) for spots in own])
-            for part in ("roads", "parts", "sides")
-        )
+            for part in ("roads", "parts", "sides"))
         is_at_end = (parts == 0) | (parts == 1)
-        along = Groups.of(
-            roads.road_of[roads.road_of != NONE], numpy.flatnonzero(roads.road_of != NONE)
-        ).of_each(numbers[~is_at_end])
+        arcs = numpy.flatnonzero(roads.road_of != NONE)
+        along = Groups.of(roads.road_of[arcs], arcs).of_each(numbers[~is_at_end])
         is_open = roads.sides_of(along.items) & sides[~is_at_end][along.places] > 0
         nodes = numpy.where(parts == 0, roads.firsts[numbers], roads.lasts[numbers])[is_at_end]
         at_crossings = self.by_node.of_each(self.layers.crossings[nodes]).through(owners[is_at_end])
@@ -354,80 +278,45 @@ class ArcNames:
         labelling, ways = self.layers.labelling, self.layers.ways
         if ways is not None:
             parts = numpy.flatnonzero(ways != 0)
-            # Numbers of ways have at most 64 bits, and no arc is a part of any other, nor of one
-            # with the number 0.
-            found = Groups.of(ways[parts], parts).of_each(
-                numpy.array(
-                    [number if abs(number) < 2**63 else 0 for number in numbers], numpy.int64
-                )
-            )
+            # Numbers of ways have at most 64 bits, and no arc is a part of any other, nor of 0.
+            known = [number if abs(number) < 2**63 else 0 for number in numbers]
+            found = Groups.of(ways[parts], parts).of_each(numpy.array(known, numpy.int64))
         elif labelling is not None and labelling.ways is not None:
             found = self.of_items(self.layers.rows_by_way, numbers, self.by_row)
         else:
-            why = (
-                "`osm_to_gr.py` writes a file of ways beside its graph, and edges of osmnx have "
-                "`osmid`"
-            )
-            raise refused(
-                name,
-                int(places[0]),
-                f"nothing says which arcs are parts of way {numbers[0]} of OpenStreetMap: {why}",
-            )
-        missing = columns.first_of(found.counts(len(places)) == 0)
-        if missing is not None:
-            raise refused(
-                name,
-                int(places[missing]),
-                f"no arc is a part of way {numbers[missing]} of OpenStreetMap",
-            )
-        return found.through(places)
+            why = "`osm_to_gr.py` writes a file of ways beside its graph, and edges of osmnx have"
+            text = f"nothing says which arcs are parts of way {numbers[0]} of OpenStreetMap"
+            raise refused(name, int(places[0]), f"{text}: {why} `osmid`")
+        return complete(name, places, found, lambda place: (
+            f"no arc is a part of way {numbers[place]} of OpenStreetMap"))
 
     def of_streets(self, name: str, places: Integers, names: Sequence[str]) -> Found:
         """The arcs of all streets that have these names, or these numbers."""
         streets = self.layers.streets
         if streets is None:
-            raise refused(
-                name,
-                int(places[0]),
-                f"{quoted(names[0])} names no arc, as streets have no names here; names are "
-                f"{NAMES}",
-            )
+            text = f"{quoted(names[0])} names no arc, as streets have no names here"
+            raise refused(name, int(places[0]), f"{text}; names are {NAMES}")
         by_name: dict[str, list[int]] = {}
         for number, street in enumerate(streets.streets, 1):
             for word in {street.name, *street.ref.split(", ")} - {""}:
                 by_name.setdefault(word, []).append(number)
         found = self.of_items(by_name, names, Groups.of(numpy.array(streets.of_arcs, numpy.int64)))
-        missing = columns.first_of(found.counts(len(places)) == 0)
-        if missing is not None:
-            raise refused(
-                name,
-                int(places[missing]),
-                f"no street of the map is called {quoted(names[missing])}",
-            )
-        return found.through(places)
+        return complete(name, places, found, lambda place: (
+            f"no street of the map is called {quoted(names[place])}"))
 
     def of_items(
-        self, numbers_by: dict[Any, list[int]], wanted: Sequence[Any], arcs: Groups
+        self, numbers_by: dict[Any, list[int]], wanted: Sequence[Any], arcs: Groups,
     ) -> Found:
-        """The arcs of what has several numbers each, such as the rows of a way or the streets of a
-        name."""
+        """The arcs of what has several numbers each, as a way has rows and a name has streets."""
         numbers = [numbers_by.get(each, []) for each in wanted]
         owners = numpy.repeat(numpy.arange(len(wanted)), [*map(len, numbers)])
-        return arcs.of_each(
-            numpy.array([number for own in numbers for number in own], numpy.int64)
-        ).through(owners)
+        every = numpy.array([*itertools.chain(*numbers)], numpy.int64)
+        return arcs.of_each(every).through(owners)
 
     # Columns with a value for each row.
 
     def in_rows(self, name: str, column: Any) -> Any:
-        """A column, or a frame of columns, with a value for each row, in the order of rows: one of
-        pandas is put in that order by its index. Rows without arcs need no value.
-
-        Raises
-        ------
-        DataFault
-            The index names no rows, a row twice, or not all of them.
-        """
+        """Values of rows in their order: a column of pandas goes by its index, or is refused."""
         if not hasattr(column, "iloc"):
             return column
         found = self.rows_of_index(name, column.index)
@@ -438,27 +327,19 @@ class ArcNames:
         place_of[found.items] = found.places
         twice = columns.first_of(place_of[found.items] != found.places)
         if twice is not None:
-            raise refused(
-                name,
-                int(found.places[twice]),
-                f"there is another value for row {found.items[twice]}",
-            )
+            text = f"there is another value for row {found.items[twice]}"
+            raise refused(name, int(found.places[twice]), text)
         lacking = columns.first_of(place_of[self.rows] < 0)
         if lacking is not None:
-            counts = (
-                f"{name} has {len(column):,} rows, and there are {len(place_of):,} rows of arcs"
-            )
-            raise DataFault(f"{counts}: row {self.rows[lacking]} has no value", name)
-        return (
-            column
-            if numpy.array_equal(place_of, numpy.arange(len(column)))
-            else column.iloc[numpy.maximum(place_of, 0)]
-        )
+            text = f"{name} has {len(column):,} rows, and there are {len(place_of):,} rows of arcs"
+            raise DataFault(f"{text}: row {self.rows[lacking]} has no value", name)
+        if numpy.array_equal(place_of, numpy.arange(len(column))):
+            return column
+        return column.iloc[numpy.maximum(place_of, 0)]
 
 
 def all_of(calls: Iterable[Callable[[], Any]]) -> list[Any]:
-    """The values of some calls. If several refuse something, the first of it by its place in the
-    list is the fault."""
+    """The values of some calls; of several faults, the first by its place in the list."""
     values, faults = [], []
     for call in calls:
         try:
@@ -468,6 +349,24 @@ def all_of(calls: Iterable[Callable[[], Any]]) -> list[Any]:
     if faults:
         raise min(faults, key=lambda fault: fault.row or 0)
     return values
+
+
+def complete(name: str, places: Integers, found: Found, text: Callable[[int], str]) -> Found:
+    """What was found for names at these places of a list; a name without anything is refused."""
+    missing = columns.first_of(found.counts(len(places)) == 0)
+    if missing is not None:
+        raise refused(name, int(places[missing]), text(missing))
+    return found.through(places)
+
+
+def levels_of(index: Any) -> list[Any]:
+    """The levels of an index of pandas, in arrays."""
+    return [numpy.asarray(index.get_level_values(level)) for level in range(index.nlevels)]
+
+
+def values_of(column: Any) -> Sequence[Any]:
+    """The values of a column in a list."""
+    return column.tolist() if isinstance(column, numpy.ndarray) else column
 
 
 def objects_in(values: Sequence[Any]) -> LabelArray:

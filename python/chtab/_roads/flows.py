@@ -1,4 +1,5 @@
-"""Flows on roads: the sum of the demands of the pairs of nodes whose routes take each road (*all-or-nothing assignment*)."""
+"""Flows on roads: the sum of the demands of the pairs of nodes whose routes take each road
+(*all-or-nothing assignment*)."""
 from __future__ import annotations
 
 import math
@@ -10,7 +11,8 @@ import numpy
 from chtab import files
 from chtab.errors import DataFault
 from chtab._files import columns
-from chtab._files.columns import refused
+from chtab._files.arc_columns import scale_in
+from chtab._files.columns import refuse
 from chtab._files.measures import EXACT
 from chtab._roads.arc_names import ArcNames
 from chtab._roads.pairs import nodes_in, pairs_in, with_ends
@@ -37,9 +39,12 @@ class PairTrips(NamedTuple):
     pairs: Integers
     demands: Demands
 
-    def flows(self, engine: InProcess, layers: Layers, progress: Progress = None) -> tuple[int, Unsigned]:
+    def flows(
+        self, engine: InProcess, layers: Layers, progress: Progress = None,
+    ) -> tuple[int, Unsigned]:
         """How many pairs have no route, and the flow on each arc of the graph."""
-        return engine.flows(with_ends(layers, self.pairs), self.demands.whole, files.count_arcs(layers.path), progress)
+        pairs, lines = with_ends(layers, self.pairs), files.count_arcs(layers.path)
+        return engine.flows(pairs, self.demands.whole, lines, progress)
 
 
 class TableTrips(NamedTuple):
@@ -49,68 +54,80 @@ class TableTrips(NamedTuple):
     destinations: Integers
     demands: Demands
 
-    def flows(self, engine: InProcess, layers: Layers, progress: Progress = None) -> tuple[int, Unsigned]:
+    def flows(
+        self, engine: InProcess, layers: Layers, progress: Progress = None,
+    ) -> tuple[int, Unsigned]:
         """How many pairs have no route, and the flow on each arc of the graph."""
-        ends = layers.ends_of(self.destinations)
-        return engine.flows_table(self.origins, ends, self.demands.whole, files.count_arcs(layers.path), progress)
+        ends, lines = layers.ends_of(self.destinations), files.count_arcs(layers.path)
+        return engine.flows_table(self.origins, ends, self.demands.whole, lines, progress)
 
 
-def trips_in(layers: Layers, origins: Any, destinations: Any, demand: Any, scale: float | None) -> PairTrips | TableTrips:
+def trips_in(
+    layers: Layers, origins: Any, destinations: Any, demand: Any, scale: float | None,
+) -> PairTrips | TableTrips:
     """The trips of a table if the demand is one, and otherwise those of pairs."""
     if getattr(demand, "ndim", 1) == 2:
         return table_in(layers, demand, origins, destinations, scale)
     if origins is None or destinations is None:
-        raise ValueError("origins and destinations are needed, or a frame of demands whose index and columns have them")
+        text = "origins and destinations are needed, or a frame of demands whose index and columns"
+        raise ValueError(f"{text} have them")
     pairs = pairs_in(layers, origins, destinations)
     return PairTrips(pairs, demands_of(demand, (len(pairs),), scale))
 
 
-def table_in(layers: Layers, demand: Any, origins: Any, destinations: Any, scale: float | None) -> TableTrips:
-    """The trips of a frame of demands, whose index has the origins and whose columns the destinations; or of an array with both beside it."""
+def table_in(
+    layers: Layers, demand: Any, origins: Any, destinations: Any, scale: float | None,
+) -> TableTrips:
+    """The trips of a frame of demands by its index and columns, or of an array with both beside."""
     if hasattr(demand, "iloc"):
         if demand.ndim != 2 or origins is not None or destinations is not None:
-            raise ValueError("a frame of demands has origins in its index and destinations in its columns, and these come with no other demand of pandas")
+            text = "a frame of demands has origins in its index and destinations in its columns"
+            raise ValueError(f"{text}, and these come with no other demand of pandas")
         origins, destinations = demand.index, demand.columns
     elif origins is None or destinations is None:
         raise ValueError("an array of demands needs origins and destinations beside it")
-    rows, columns = nodes_in(layers, "origins", origins), nodes_in(layers, "destinations", destinations)
+    rows = nodes_in(layers, "origins", origins)
+    columns = nodes_in(layers, "destinations", destinations)
     return TableTrips(rows, columns, demands_of(demand, (len(rows), len(columns)), scale))
 
 
-def flows_of_rows(engine: InProcess, layers: Layers, trips: PairTrips | TableTrips, progress: Progress) -> pandas.Series:
+def flows_of_rows(
+    engine: InProcess, layers: Layers, trips: PairTrips | TableTrips, progress: Progress,
+) -> pandas.Series:
     """The flow on each row of the arcs, with what `attrs` says of pairs without a route."""
     missed, flows = trips.flows(engine, layers, progress)
     by_row = numpy.zeros(layers.row_count, numpy.uint64)
     numpy.add.at(by_row, layers.rows, flows)
-    return series_of(layers, trips.demands.told(by_row), missed)
+    return series_of(layers, trips.demands.in_unit(by_row), missed)
 
 
 class Demands(NamedTuple):
-    """Demands in whole units, and how many of these make one of the caller's; None if the caller's are whole numbers themselves."""
+    """Demands in whole units, `scale` of which make one of the caller's, if it isn't None."""
 
     whole: Unsigned
     scale: float | None
 
-    def told(self, flows: Unsigned) -> NDArray[Any]:
+    def in_unit(self, flows: Unsigned) -> NDArray[Any]:
         """Flows in the caller's unit."""
         return flows.astype(numpy.int64) if self.scale is None else flows / self.scale
 
 
 def demands_of(demand: Any, shape: tuple[int, ...], scale: float | None) -> Demands:
-    """The demands of so many pairs, or of the cells of a table: one number for all, or one for each."""
-    if scale is not None and (isinstance(scale, bool) or not isinstance(scale, numbers.Real) or not 0 < scale < math.inf):
-        raise DataFault(f"scale is a number above 0, not {scale!r}", "scale")
-    count = math.prod(shape)
-    given = [demand] * count if isinstance(demand, numbers.Number | numpy.number) else in_one_column(demand, shape)
+    """The demands of so many pairs, or of the cells of a table: a number for all, or for each."""
+    scale, count = scale_in(scale), math.prod(shape)
+    is_one = isinstance(demand, numbers.Number | numpy.number)
+    given = [demand] * count if is_one else in_one_column(demand, shape)
     try:
         whole, is_float = whole_demands(given, count, scale)
     except DataFault as fault:
         if len(shape) == 1 or fault.row is None:
             raise
         row, column = divmod(fault.row, shape[1])
-        raise DataFault(str(fault).replace(f"[{fault.row}]", f"[{row}, {column}]", 1), fault.column, row) from None
+        text = str(fault).replace(f"[{fault.row}]", f"[{row}, {column}]", 1)
+        raise DataFault(text, fault.column, row) from None
     if total_of(whole) >= LIMIT:
-        raise DataFault("the sum of all demands is 2^63 or more of the units that are counted", "demand")
+        text = "the sum of all demands is 2^63 or more of the units that are counted"
+        raise DataFault(text, "demand")
     return Demands(whole.reshape(shape), 1.0 if scale is None and is_float else scale)
 
 
@@ -120,11 +137,13 @@ def in_one_column(demand: Any, shape: tuple[int, ...]) -> Any:
         return demand
     if hasattr(demand, "iloc"):
         # Numbers of several types become no others.
-        demand = demand.to_numpy() if len(set(demand.dtypes)) == 1 else demand.astype(object).to_numpy()
+        is_of_one = len(set(demand.dtypes)) == 1
+        demand = (demand if is_of_one else demand.astype(object)).to_numpy()
     elif not hasattr(demand, "__array__"):
         demand = numpy.array(demand, object)
     if demand.shape != shape:
-        raise ValueError(f"demand has the shape {demand.shape}, and there are {shape[0]:,} origins and {shape[1]:,} destinations")
+        text = f"{shape[0]:,} origins and {shape[1]:,} destinations"
+        raise ValueError(f"demand has the shape {demand.shape}, and there are {text}")
     return demand.reshape(-1)
 
 
@@ -133,17 +152,15 @@ def whole_demands(demand: Any, count: int, scale: float | None) -> tuple[Unsigne
     given = columns.numbers_in("demand", demand)
     if given.ndim != 1 or len(given) != count:
         raise ValueError(f"demand has the shape {given.shape}, and there are {count:,} pairs")
-    wrong = columns.first_of(~((given >= 0) & (given < numpy.inf)))
-    if wrong is not None:
-        raise refused("demand", wrong, f"{given[wrong]} is {'below 0' if -numpy.inf < given[wrong] < 0 else 'no demand'}")
+    refuse("demand", ~((given >= 0) & (given < numpy.inf)), lambda row: (
+        f"{given[row]} is {'below 0' if -numpy.inf < given[row] < 0 else 'no demand'}"))
     scaled = given.astype(numpy.longdouble) * numpy.longdouble(1 if scale is None else scale)
     rounded = numpy.rint(scaled)
-    fraction = columns.first_of(rounded != scaled) if scale is None else None
-    if fraction is not None:
-        raise refused("demand", fraction, f"{given[fraction]} is not a whole number; `scale` says how many parts of one are counted")
-    large = columns.first_of(rounded > EXACT)
-    if large is not None:
-        raise refused("demand", large, f"{given[large]} is too large: it is more than 2^53 of the units that are counted")
+    if scale is None:
+        text = "is not a whole number; `scale` says how many parts of one are counted"
+        refuse("demand", rounded != scaled, lambda row: f"{given[row]} {text}")
+    refuse("demand", rounded > EXACT, lambda row: (
+        f"{given[row]} is too large: it is more than 2^53 of the units that are counted"))
     return rounded.astype(numpy.uint64), given.dtype.kind == "f"
 
 
@@ -165,7 +182,9 @@ def series_of(layers: Layers, by_row: NDArray[Any], missed: int) -> pandas.Serie
         own = layers.labels
         ends = [own.listed(column[firsts].tolist()) for column in (names.tails, names.heads)]
         keys = [labelling.keys[row] for row in rows.tolist()]
-        flows = flows.iloc[rows].set_axis(pandas.MultiIndex.from_arrays([*ends, keys], names=["source", "target", "key"]))
+        levels = ["source", "target", "key"]
+        index = pandas.MultiIndex.from_arrays([*ends, keys], names=levels)
+        flows = flows.iloc[rows].set_axis(index)
     else:
         flows.index = index_of_rows(layers)
     flows.attrs[MISSED] = missed
@@ -173,7 +192,7 @@ def series_of(layers: Layers, by_row: NDArray[Any], missed: int) -> pandas.Serie
 
 
 def index_of_rows(layers: Layers) -> pandas.Index:
-    """The labels of rows in the caller's frame, and None for rows that were added; or the numbers of rows, if these are called so."""
+    """The labels of rows in the caller's frame, None for added ones; or the numbers of rows."""
     import pandas
 
     labels, count = layers.row_labels.labels, layers.row_count
@@ -181,5 +200,6 @@ def index_of_rows(layers: Layers) -> pandas.Index:
         return pandas.RangeIndex(count)
     names = labels.tolist()
     if len(names) == count:
-        return pandas.MultiIndex.from_tuples(names) if isinstance(names[0], tuple) else pandas.Index(names)
-    return pandas.Index([*names, *[None] * (count - len(names))], dtype=object, tupleize_cols=False)
+        return pandas.Index(names)
+    every = [*names, *[None] * (count - len(names))]
+    return pandas.Index(every, dtype=object, tupleize_cols=False)

@@ -21,8 +21,7 @@ def arcs_of_arrays(
     ends: tuple[Any, Any, Any], places: tuple[Any, Any, Any], scale: float | None, unit: str | None,
     both_ways: Any, geometry: Any, like: Network | None,
 ) -> arc_columns.Arcs:
-    """The arcs of columns: sources, targets and weights, and the labels, longitudes and latitudes
-    of nodes or None."""
+    """The arcs of columns: sources, targets, weights; and labels and places of nodes or None."""
     names = *arc_columns.NAMES, "both_ways", "geometry"
     rows = row_index.matched(names, [listed(column) for column in (*ends, both_ways, geometry)])
     index = next(filter(lambda own: own is not None, map(row_index.index_of, rows)), None)
@@ -33,27 +32,19 @@ def arcs_of_arrays(
 
 
 def arcs_of_sparse(
-    matrix: Any,
-    places: tuple[Any, Any, Any],
-    scale: float | None,
-    unit: str | None,
-    both_ways: bool,
-    like: Network | None,
+    matrix: Any, places: tuple[Any, Any, Any], scale: float | None, unit: str | None,
+    both_ways: bool, like: Network | None,
 ) -> arc_columns.Arcs:
     """The arcs of a sparse matrix of scipy."""
     if not hasattr(matrix, "tocsr") or matrix.ndim != 2 or matrix.shape[0] != matrix.shape[1]:
         raise DataFault("matrix is a sparse matrix of scipy with as many rows as columns", "matrix")
     rows, (nodes, x, y) = matrix.tocsr(copy=True), nodes_in_order(*places)
     rows.sum_duplicates()
-    stored, is_like = rows.tocoo(), like is not None and nodes is None
-    if like is not None and nodes is None:
-        nodes = like.labels
-    known = columns.column_labels_in(
-        "nodes", numpy.arange(rows.shape[0]) if nodes is None else nodes
-    )
-    if len(known) != rows.shape[0]:
-        text = f"nodes has {len(known):,} rows, and the matrix {rows.shape[0]:,}"
-        raise DataFault(text, "nodes")
+    stored, count, is_like = rows.tocoo(), rows.shape[0], like is not None and nodes is None
+    own = numpy.arange(count) if like is None else like.labels
+    known = columns.column_labels_in("nodes", own if nodes is None else nodes)
+    if len(known) != count:
+        raise DataFault(f"nodes has {len(known):,} rows, and the matrix {count:,}", "nodes")
     labels = None if is_like else known
     given = arc_columns.Columns(
         known[stored.row], known[stored.col], stored.data, labels, x, y, scale, unit, both_ways)
@@ -71,34 +62,25 @@ def listed(column: Any) -> Any:
 
 
 def nodes_in_order(nodes: Any, x: Any, y: Any) -> list[Any]:
-    """The labels and places of nodes. Columns of pandas are put into the order of the first one's
-    index, or of the labels if these are an Index."""
-    nodes, x, y = row_index.matched(
-        ("nodes", "x", "y"), [listed(column) for column in (nodes, x, y)]
-    )
+    """The labels and places of nodes, columns of pandas in the order of the first one."""
+    given = [listed(column) for column in (nodes, x, y)]
+    nodes, *places = row_index.matched(("nodes", "x", "y"), given)
     if hasattr(nodes, "get_indexer") and nodes.is_unique:
-        x, y = (
-            column.iloc[column.index.get_indexer(nodes)] if is_of_labels(column, nodes) else column
-            for column in (x, y)
-        )
-    return [nodes, x, y]
+        places = [by_labels(column, nodes) for column in places]
+    return [nodes, *places]
 
 
-def is_of_labels(column: Any, labels: Any) -> bool:
-    """Whether the index of a column has just these labels, in any order."""
+def by_labels(column: Any, labels: Any) -> Any:
+    """A column in the order of labels, if its index has just these."""
     index = row_index.index_of(column)
-    return (
-        index is not None
-        and len(index) == len(labels)
-        and index.is_unique
-        and bool(index.isin(labels).all())
-    )
+    if index is None or len(index) != len(labels) or not index.is_unique:
+        return column
+    return column.iloc[index.get_indexer(labels)] if index.isin(labels).all() else column
 
 
 @contextlib.contextmanager
 def known_to_be_closed(network: Any) -> Iterator[None]:
-    """Raises the fault of a closed network where its files are gone because it was closed
-    meanwhile."""
+    """Raises the fault of a closed network where its files went with it."""
     try:
         yield
     except FileNotFoundError:
@@ -113,20 +95,14 @@ def see_that_same_nodes(labels: NDArray[Any], own: NDArray[Any]) -> None:
         return
     if len(own) != len(labels):
         raise DataFault(f"like has {len(labels):,} nodes, and there are {len(own):,} here", "nodes")
-    apart = next(
-        row for row, (one, other) in enumerate(zip(own.tolist(), labels.tolist())) if one != other
-    )
-    raise DataFault(
-        f"node {columns.quoted(own[apart])} is {columns.quoted(labels[apart])} in like: both "
-        "networks have the same nodes",
-        "nodes",
-        apart,
-    )
+    pairs = enumerate(zip(own.tolist(), labels.tolist()))
+    row, (one, other) = next(each for each in pairs if each[1][0] != each[1][1])
+    text = f"node {columns.quoted(one)} is {columns.quoted(other)} in like"
+    raise DataFault(f"{text}: both networks have the same nodes", "nodes", row)
 
 
 def with_nodes_of(given: arc_columns.Columns, like: Any) -> arc_columns.Columns:
-    """The same columns with the nodes of a network, where they name none: its labels, and its
-    places where these are not given."""
+    """The same columns with the labels of a network, and its places if none are given."""
     if like is None or given.nodes is not None:
         return given
     given = dataclasses.replace(given, nodes=like.labels)
@@ -138,13 +114,9 @@ def with_nodes_of(given: arc_columns.Columns, like: Any) -> arc_columns.Columns:
 
 
 def with_turns_of(arcs: arc_columns.Arcs, like: Any) -> arc_columns.Arcs:
-    """The same arcs with what a network says of nodes where turns are restricted: which of them are
-    one crossing, and where trips end. Arcs that don't lead to where trips end are refused."""
-    if (
-        arcs.places is None
-        or like._layers.paths["coordinates"] is None
-        or not like.coordinates.turns()
-    ):
+    """The same arcs with restricted turns as a network has them; they have to lead to its ends."""
+    has_places = arcs.places is not None and like._layers.paths["coordinates"] is not None
+    if not has_places or not like.coordinates.turns():
         return arcs
     ends = like._layers.ends
     is_met = numpy.zeros(len(ends), bool)
@@ -152,21 +124,16 @@ def with_turns_of(arcs: arc_columns.Arcs, like: Any) -> arc_columns.Arcs:
     apart = columns.first_of((ends > 0) & ~is_met)
     if apart is not None:
         labels = like.labels[[apart - 1, int(ends[apart]) - 1]].tolist()
-        text = (
-            "turns are restricted in like, where trips to the node {} end at the node {}, and no "
-            "arc leads there from it here: give the arcs of "
-            "`like.graph` with other weights, or leave `like` out"
-        )
-        raise DataFault(text.format(*map(columns.quoted, labels)), "targets")
+        node, end = map(columns.quoted, labels)
+        text = f"turns are restricted in like, where trips to the node {node} end at the node {end}"
+        hint = "give the arcs of `like.graph` with other weights, or leave `like` out"
+        raise DataFault(f"{text}, and no arc leads there from it here: {hint}", "targets")
     return dataclasses.replace(arcs, turns=like.coordinates.turns())
 
 
 def warn_of_scale(scale: float, level: int) -> None:
-    """Warns that limits and answers are whole numbers, as in version 1.1, and not in the unit of
-    the weights that were given."""
-    text = (
-        f"weights were multiplied by {scale:g}, and limits and answers are these whole numbers; "
-        "name the unit of your weights, as unit='minutes', "
-        "for limits and answers in it, as later versions will have them, or give raw=True"
-    )
+    """Warns that limits and answers are whole numbers, and not in the unit of the weights."""
+    text = f"weights were multiplied by {scale:g}, and limits and answers are these whole numbers;"
+    text += " name the unit of your weights, as unit='minutes', for limits and answers in it, as"
+    text += " later versions will have them, or give raw=True"
     warnings.warn(text, FutureWarning, stacklevel=level)

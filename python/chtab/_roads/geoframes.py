@@ -21,24 +21,15 @@ if TYPE_CHECKING:
 
 
 def in_degrees(frame: geopandas.GeoDataFrame) -> geopandas.GeoDataFrame:
-    """A GeoDataFrame in longitudes and latitudes. A frame without a coordinate system is taken to
-    be in degrees."""
+    """A GeoDataFrame in degrees, which one without a coordinate system is taken to be."""
     return frame if frame.crs is None or frame.crs == DEGREES else frame.to_crs(DEGREES)
 
 
 def columns_of_geodataframe(
-    edges: Any,
-    nodes: Any,
-    names: tuple[str, str, str | None],
-    both_ways: Any,
+    edges: Any, nodes: Any, names: tuple[str, str, str | None], both_ways: Any,
     more: Mapping[str, Any],
 ) -> arc_columns.Columns:
-    """The columns of a frame with a line for each arc, and further ones of `arc_columns.Columns`.
-
-    If the frame has no columns or levels of the index with the names of both ends, the nodes are
-    the ends of lines, numbered 1, 2, .. by longitude and latitude. Without a column of weights, a
-    weight is the metres along the line.
-    """
+    """The columns of a frame of lines, as `Network.from_geodataframe` explains them."""
     source, target, weight = names
     lines = edge_lines.lines_in("geometry", in_degrees(edges).geometry, len(edges))
     if lines is None or any(line is None for line in lines):
@@ -50,39 +41,26 @@ def columns_of_geodataframe(
         sources, targets = (column_of(edges, name) for name in (source, target))
         of_arcs |= of_nodes(nodes)
     elif any(has_ends) or nodes is not None:
-        raise DataFault(
-            f"the frame has no columns {source!r} and {target!r} for the ends of lines",
-            source if has_ends[1] else target,
-        )
+        text = f"the frame has no columns {source!r} and {target!r} for the ends of lines"
+        raise DataFault(text, source if has_ends[1] else target)
     else:
         (sources, targets), own = by_ends(lines)
         of_arcs |= own
     weights = lengths_of(lines) if weight is None else column_of(edges, weight)
-    if weight is None:
-        of_arcs = {"unit": "metres"} | {
-            name: value for name, value in of_arcs.items() if value is not None
-        }
+    if weight is None and of_arcs.get("unit") is None:
+        of_arcs["unit"] = "metres"
     named = (str(source), str(target), "length" if weight is None else str(weight))
     keys = column_of(edges, "key").tolist() if "key" in edges.index.names else None
     ways = ways_in(edges[WAYS]) if WAYS in edges.columns else None
     if not any(has_ends):
         warn_of_parts(len(of_arcs["nodes"]), sources, targets)
     return arc_columns.Columns(
-        sources,
-        targets,
-        weights,
-        geometry=lines,
-        names=named,
-        keys=keys,
-        ways=ways,
-        index=edges.index,
-        **of_arcs,
-    )
+        sources, targets, weights, geometry=lines, names=named, keys=keys, ways=ways,
+        index=edges.index, **of_arcs)
 
 
 def of_nodes(nodes: Any) -> dict[str, Any]:
-    """The labels and places of a frame of points, whose index has the labels; nothing if there is
-    no frame."""
+    """The labels and places of a frame of points; nothing if there is no frame."""
     if nodes is None:
         return {}
     points = in_degrees(nodes).geometry
@@ -90,16 +68,12 @@ def of_nodes(nodes: Any) -> dict[str, Any]:
 
 
 def by_ends(lines: Any) -> tuple[tuple[Integers, Integers], dict[str, Any]]:
-    """The nodes at the ends of lines, as labels from 1 on, in millionths of a degree; and these
-    nodes with their places."""
+    """The nodes at the ends of lines in millionths of a degree, from 1 on, with their places."""
     ends = numpy.round([(line[0], line[-1]) for line in lines], 6).reshape(-1, 2)
     places, found = numpy.unique(ends, axis=0, return_inverse=True)
     sources, targets = found.reshape(-1, 2).T + 1
-    return (sources, targets), {
-        "nodes": numpy.arange(1, len(places) + 1),
-        "x": places[:, 0],
-        "y": places[:, 1],
-    }
+    nodes = {"nodes": numpy.arange(1, len(places) + 1), "x": places[:, 0], "y": places[:, 1]}
+    return (sources, targets), nodes
 
 
 def lengths_of(lines: Any) -> NDArray[Any]:

@@ -1,4 +1,5 @@
-"""Items that are found by a number, many at a time: the arcs of rows, of ways, or between two nodes."""
+"""Items that are found by a number, many at a time: the arcs of rows, of ways, or between two
+nodes."""
 from __future__ import annotations
 
 from typing import TYPE_CHECKING, NamedTuple, Self
@@ -12,7 +13,7 @@ if TYPE_CHECKING:
 
 
 class Found(NamedTuple):
-    """Items that were found, such as arcs, and for each the place of what stands for it among those that were looked for."""
+    """Items that were found, and for each the place of what it was found for."""
 
     items: Integers
     places: Integers
@@ -42,4 +43,5 @@ class Groups(NamedTuple):
         """The items of some numbers, in the order of these."""
         firsts = self.numbers.searchsorted(wanted)
         counts = self.numbers.searchsorted(wanted, "right") - firsts
-        return Found(self.items[ranges(firsts, counts)], numpy.repeat(numpy.arange(len(wanted)), counts))
+        return Found(
+            self.items[ranges(firsts, counts)], numpy.repeat(numpy.arange(len(wanted)), counts))

@@ -13,16 +13,14 @@ NONE = -1
 
 
 class Ways(NamedTuple):
-    """The nodes where trips leave roads, or arrive, and the weights of the whole road: a row for each
-    road, in the order that `Spots` have."""
+    """The nodes where trips leave roads, or arrive, and the weights of the whole roads, in rows."""
 
     nodes: Integers
     weights: Integers
 
 
 class BothWays(NamedTuple):
-    """The ways out of roads, in the first `outs` columns, and those into them, in the others; and for
-    each column whether its nodes are those of the road's last place."""
+    """The ways out of roads in `outs` columns, and those into them; which have the last place."""
 
     nodes: Integers
     weights: Integers
@@ -41,8 +39,8 @@ def both_ways(out: Ways, into: Ways) -> BothWays:
 def ways_of(
     roads: Integers, sides: Integers, nodes: Integers, weights: Integers, count: int,
 ) -> Ways:
-    """The ways of `count` roads. Each arc is given by its road, the end of this road (0 or 1) at which its node is, the node, and the weight. Of
-    several arcs with one node, the least weight counts."""
+    """The ways of `count` roads, by arcs: their roads, the ends of these (0 or 1) that their nodes
+    are at, these nodes, and weights, of which the least of a node counts."""
     order = numpy.lexsort([weights, nodes, sides, roads])
     keys = numpy.column_stack([roads, sides, nodes])[order]
     is_new = numpy.append(True, (keys[1:] != keys[:-1]).any(axis=1))[:len(keys)]
@@ -57,9 +55,7 @@ def ways_of(
 
 
 class Few(NamedTuple):
-    """A spot by itself, in plain numbers: where it is, how far from its place, its road, the part of
-    it, and its metres; and the nodes out of it, which are the first `width`, and into it, with what
-    is added there."""
+    """A spot by itself in plain numbers, so many metres from its place, on a part of a road."""
 
     longitude: float
     latitude: float
@@ -67,6 +63,7 @@ class Few(NamedTuple):
     road: int
     part: float
     length: float
+    # The nodes out of it, which are the first `width`, and into it, with what is added there.
     nodes: list[int]
     weights: list[int]
     width: int

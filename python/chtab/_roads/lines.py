@@ -1,11 +1,13 @@
-"""Lines on the earth in flat arrays: their lengths, parts of them, and the point of all lines that is nearest to a place.
+"""Lines on the earth in flat arrays: their lengths, parts of them, and the point of all lines that
+is nearest to a place.
 
-Distances are compared in Mercator's projection. It keeps angles, so that the nearest point there is the nearest on the ground.
+Distances are compared in Mercator's projection. It keeps angles, so that the nearest point there is
+the nearest on the ground.
 """
 from __future__ import annotations
 
 import math
-from collections.abc import Callable, Sequence
+from collections.abc import Sequence
 from typing import TYPE_CHECKING, Any, NamedTuple
 
 import numpy
@@ -20,14 +22,15 @@ if TYPE_CHECKING:
 
 # The latitudes up to which the projection is used; at the poles it is infinite.
 STEEPEST = 89.9
-# Pieces of lines whose middles are nearest to a place, among which its nearest step is looked for first.
+# Pieces of lines whose middles are nearest to a place, among which its nearest step is looked for
+# first.
 NEIGHBOURS = 16
 
 
 def mercator(longitudes: ArrayLike, latitudes: ArrayLike) -> Floats:
     """Projects degrees to the plane."""
-    latitudes = numpy.minimum(numpy.maximum(latitudes, -STEEPEST), STEEPEST)
-    return numpy.array([numpy.radians(longitudes), numpy.arcsinh(numpy.tan(numpy.radians(latitudes)))]).T
+    y = numpy.radians(numpy.minimum(numpy.maximum(latitudes, -STEEPEST), STEEPEST))
+    return numpy.array([numpy.radians(longitudes), numpy.arcsinh(numpy.tan(y))]).T
 
 
 def degrees(x: Floats, y: Floats) -> tuple[Floats, Floats]:
@@ -35,23 +38,25 @@ def degrees(x: Floats, y: Floats) -> tuple[Floats, Floats]:
     return numpy.degrees(x), numpy.degrees(numpy.arctan(numpy.sinh(y)))
 
 
-def metres_between(longitudes: ArrayLike, latitudes: ArrayLike, others: ArrayLike, other_latitudes: ArrayLike) -> Floats:
+def metres_between(
+    longitudes: ArrayLike, latitudes: ArrayLike, others: ArrayLike, other_latitudes: ArrayLike,
+) -> Floats:
     """The metres between each pair of places, along the sphere; columns of one length."""
     count = len(numpy.asarray(longitudes))
-    both = points(numpy.concatenate([longitudes, others]), numpy.concatenate([latitudes, other_latitudes])).T
+    columns = (longitudes, others), (latitudes, other_latitudes)
+    both = points(*map(numpy.concatenate, columns)).T
     x, y, z = both[:, :count] - both[:, count:]
     return sphere.metres_of(numpy.sqrt(x * x + y * y + z * z))
 
 
 def tidied(lines: Sequence[Floats]) -> list[tuple[list[Point], float]]:
-    """For each line of places (n, 2) its places as a list of (longitude, latitude), rounded to millionths of a degree and without repeated ones, and
-    the metres along it."""
+    """The places of lines (n, 2), rounded and without repeated ones, and the metres along each."""
     if not lines:
         return []
-    places, owner = numpy.concatenate(lines), numpy.repeat(numpy.arange(len(lines)), list(map(len, lines)))
-    is_same = numpy.zeros(len(places), bool)
-    is_same[1:] = (owner[1:] == owner[:-1]) & (places[1:] == places[:-1]).all(axis=1)
-    places, owner = places[~is_same], owner[~is_same]
+    places, owner = numpy.concatenate(lines), numpy.repeat(range(len(lines)), [*map(len, lines)])
+    is_new = numpy.ones(len(places), bool)
+    is_new[1:] = (owner[1:] != owner[:-1]) | (places[1:] != places[:-1]).any(axis=1)
+    places, owner = places[is_new], owner[is_new]
     steps = metres_between(*places[:-1].T, *places[1:].T) * (owner[1:] == owner[:-1])
     metres = numpy.bincount(owner[1:], steps, len(lines)).astype(float).tolist()
     rounded = list(zip(*places.round(6).T.tolist()))
@@ -60,7 +65,7 @@ def tidied(lines: Sequence[Floats]) -> list[tuple[list[Point], float]]:
 
 
 class OnLine(NamedTuple):
-    """A point of a line: the line, the part of it where the point is, from 0 to 1, and its longitude and latitude."""
+    """A point of a line: the line, its part there, from 0 to 1, and longitude and latitude."""
 
     line: int
     part: float
@@ -69,8 +74,7 @@ class OnLine(NamedTuple):
 
 
 class Stretches(NamedTuple):
-    """Parts of lines, one after the other: their places in degrees (n, 2), how many each part has, and how far along its part each place
-    lies, from 0 to 1."""
+    """The places of parts of lines (n, 2), how many each has, and how far along each is, 0 to 1."""
 
     places: Floats
     counts: Integers
@@ -78,10 +82,8 @@ class Stretches(NamedTuple):
 
 
 class Lines:
-    """Lines of at least two places each. Line k has `places[firsts[k]:firsts[k + 1]]`, in degrees.
-
-    `parts` has the position of each place along its line, from 0 to 1, and `metres` the length of each line.
-    """
+    """Lines: line k has two or more `places[firsts[k]:firsts[k + 1]]` in degrees, which are at the
+    `parts` of it, from 0 to 1, and the length `metres[k]`."""
 
     def __init__(self, counts: Integers, places: Floats) -> None:
         self.places = places
@@ -113,20 +115,18 @@ class Lines:
     def stretch(self, line: int, start: float, end: float) -> Floats:
         """The places of a line from one part of it to another (n, 2)."""
         places, parts = self.of(line), self.parts[self.firsts[line]:self.firsts[line + 1]]
-        low, high = min(start, end), max(start, end)
-        first, last = int(numpy.searchsorted(parts, low, "right")), int(numpy.searchsorted(parts, high, "left"))
-        found = numpy.empty((max(last - first, 0) + 2, 2))
-        found[1:-1] = places[first:last]
-        for axis in (0, 1):
-            found[[0, -1], axis] = numpy.interp([low, high], parts, places[:, axis])
+        ends = min(start, end), max(start, end)
+        inner = places[parts.searchsorted(ends[0], "right"):parts.searchsorted(ends[1])]
+        outer = numpy.array([numpy.interp(ends, parts, column) for column in places.T]).T
+        found = numpy.vstack([outer[:1], inner, outer[1:]])
         return found if start <= end else found[::-1]
 
     def stretches(self, lines: Integers, starts: Floats, ends: Floats) -> Stretches:
         """The same of many lines, each from one part of it to another."""
         low, high = numpy.minimum(starts, ends), numpy.maximum(starts, ends)
         sizes = self.firsts[lines + 1] - self.firsts[lines]
-        which, owners = ranges(self.firsts[lines], sizes), numpy.repeat(numpy.arange(len(lines)), sizes)
-        parts = self.parts[which]
+        which = ranges(self.firsts[lines], sizes)
+        parts, owners = self.parts[which], numpy.repeat(numpy.arange(len(lines)), sizes)
         is_above, is_below = parts > low[owners], parts < high[owners]
         is_inside = is_above & is_below
         counts = 2 + numpy.bincount(owners[is_inside], minlength=len(lines))
@@ -144,60 +144,53 @@ class Lines:
         lengths = high - low
         shares = abs(along[order] - starts[owners]) / numpy.where(lengths > 0, lengths, 1)[owners]
         # A part without length ends with its last place.
-        return Stretches(places[order], counts, numpy.where(lengths[owners] > 0, shares, order == lasts[owners]))
+        shares = numpy.where(lengths[owners] > 0, shares, order == lasts[owners])
+        return Stretches(places[order], counts, shares)
 
     def between(self, before: Integers, lasts: Integers, parts: Floats) -> Floats:
-        """The points at parts of lines, each between the place `before` it and the next one, or at the last place of its line."""
+        """The points at parts of lines, between a place and the next one or at the last one."""
         after = numpy.minimum(before + 1, lasts)
         wide = self.parts[after] - self.parts[before]
         shares = (parts - self.parts[before]) / numpy.where(wide > 0, wide, 1)
         return self.places[before] + shares[:, None] * (self.places[after] - self.places[before])
 
     def joined(self, lines: Integers, is_back: Marks) -> Floats:
-        """The places of some lines one after the other (n, 2), in reverse order where `is_back` is True."""
+        """The places of some lines one after the other (n, 2), reversed where `is_back` is True."""
         counts = self.firsts[lines + 1] - self.firsts[lines]
         which = ranges(self.firsts[lines], counts)
-        return self.places[numpy.where(numpy.repeat(is_back, counts), numpy.repeat(2 * self.firsts[lines] + counts - 1, counts) - which, which)]
+        turned = numpy.repeat(2 * self.firsts[lines] + counts - 1, counts) - which
+        return self.places[numpy.where(numpy.repeat(is_back, counts), turned, which)]
 
-    def nearest(self, longitudes: Floats, latitudes: Floats) -> tuple[Integers, Floats, Floats, Floats]:
-        """The nearest point of all lines to each place: the lines, the position of the point along its line, from 0 to 1, and its longitude and
-        latitude."""
+    def nearest(
+        self, longitudes: Floats, latitudes: Floats,
+    ) -> tuple[Integers, Floats, Floats, Floats]:
+        """The nearest point of all lines to each place: lines, parts, longitudes, latitudes."""
         steps, shares, at = self.index.nearest(mercator(longitudes, latitudes))
+        return *self.along(steps, shares), *degrees(*at.T)
+
+    def along(self, steps: Integers, shares: Floats) -> tuple[Integers, Floats]:
+        """The lines of steps, and the parts of these at shares of the steps."""
+        before, after = self.parts[steps], self.parts[steps + 1]
         lines = numpy.searchsorted(self.firsts, steps, "right") - 1
-        return lines, self.parts[steps] + shares * (self.parts[steps + 1] - self.parts[steps]), *degrees(*at.T)
+        return lines, before + shares * (after - before)
 
     def nearest_few(self, longitudes: Floats, latitudes: Floats) -> list[OnLine]:
         """The same for a few places, one by one, without arrays of a few items."""
         found = self.index.nearest_few(mercator(longitudes, latitudes))
         steps = [step for step, _, _ in found]
         lines = numpy.searchsorted(self.firsts, steps, "right").tolist()
-        before, after = self.parts.take(steps).tolist(), self.parts.take([step + 1 for step in steps]).tolist()
-        return [
-            OnLine(line - 1, low + share * (high - low), math.degrees(x), math.degrees(math.atan(math.sinh(y))))
-            for line, low, high, (_, share, (x, y)) in zip(lines, before, after, found)
-        ]
-
-    def nearest_some(self, longitude: float, latitude: float, most: int) -> tuple[Integers, Floats, Floats, Floats]:
-        """The nearest points of the nearest lines to one place, at most `most` of them, the nearest first."""
-        steps, shares, at = self.index.nearest_some(mercator([longitude], [latitude]), most, self.firsts)
-        lines = numpy.searchsorted(self.firsts, steps, "right") - 1
-        return lines, self.parts[steps] + shares * (self.parts[steps + 1] - self.parts[steps]), *degrees(*at.T)
-
-    def nearest_facing(self, longitude: float, latitude: float, fits: Callable[[Integers], Marks]) -> tuple[Integers, Floats, tuple[Floats, Floats]]:
-        """The nearest step to a place among those for which `fits` holds, the position of the nearest point along it, from 0 to 1, and that point; in
-        arrays of one item, or of none if there is no such step."""
-        steps, shares, at = self.index.nearest_fitting(mercator([longitude], [latitude]), fits)
-        return steps, shares, degrees(*at.T)
-
-    def bearings(self, steps: Integers) -> Floats:
-        """The directions in which steps lead, in degrees clockwise from north."""
-        rows = self.index.rows.take(steps, axis=0)
-        return numpy.degrees(numpy.arctan2(rows[:, 2], rows[:, 3])) % 360
+        ends = zip(*(self.parts.take([step + more for step in steps]).tolist() for more in (0, 1)))
+        points = []
+        for line, (low, high), (_, share, (x, y)) in zip(lines, ends, found):
+            place = math.degrees(x), math.degrees(math.atan(math.sinh(y)))
+            points.append(OnLine(line - 1, low + share * (high - low), *place))
+        return points
 
 
-def foot(x: float, y: float, step: int, row: Sequence[float]) -> tuple[float, int, float, tuple[float, float]]:
-    """The nearest point of a step, by its row, to a point of the plane: the square of the distance, the step, how far along it the point is, from 0 to 1,
-    and the point."""
+def foot(
+    x: float, y: float, step: int, row: Sequence[float],
+) -> tuple[float, int, float, tuple[float, float]]:
+    """The nearest point of a step to one of the plane: distance squared, step, share, point."""
     a, b, east, north, square = row
     u, v = x - a, y - b
     share = min(max((east * u + north * v) / square, 0.0), 1.0)
@@ -213,22 +206,22 @@ def tree_of(middles: Floats) -> Any:
 
 
 class Pieces:
-    """The steps of lines, to be looked for: cut into pieces of at most a length, whose middles stand in a k-d tree.
-
-    `rows` has for each step where it starts in the plane, x and y, how far it leads east and north, and the square of its length, 1 where it has
-    none. All of a row is read together.
-    """
+    """The steps of lines, cut into pieces of at most a length, whose middles are in a k-d tree."""
 
     def __init__(self, lines: Lines) -> None:
         plane = mercator(*lines.places.T)
         is_step = numpy.ones(len(plane), bool)
         is_step[lines.firsts[1:] - 1] = False
         steps = numpy.flatnonzero(is_step)
-        steps = steps[numpy.isfinite(plane[steps]).all(axis=1) & numpy.isfinite(plane[steps + 1]).all(axis=1)]
+        is_finite = numpy.isfinite(plane).all(axis=1)
+        steps = steps[is_finite[steps] & is_finite[steps + 1]]
         ways = numpy.zeros_like(plane)
         ways[steps] = plane[steps + 1] - plane[steps]
         squares = ways[:, 0] * ways[:, 0] + ways[:, 1] * ways[:, 1]
-        self.rows = numpy.ascontiguousarray(numpy.column_stack([plane, ways, numpy.where(squares > 0, squares, 1)]))
+        # For each step where it starts, how far it leads east and north, and its length squared,
+        # 1 where it has none. All of a row is read together.
+        columns = plane, ways, numpy.where(squares > 0, squares, 1)
+        self.rows = numpy.ascontiguousarray(numpy.column_stack(columns))
         lengths = numpy.sqrt(squares[steps])
         most = lengths.mean() or 1.0
         counts = numpy.maximum(numpy.ceil(lengths / most), 1).astype(int)
@@ -240,7 +233,7 @@ class Pieces:
         self.reach = float((lengths / counts).max() / 2)
 
     def nearest(self, places: Floats) -> tuple[Integers, Floats, Floats]:
-        """The nearest step to each point of the plane, the position of the nearest point along it, from 0 to 1, and that point."""
+        """The nearest step to each point of the plane, the share of it there, and the point."""
         count = min(NEIGHBOURS, len(self.steps))
         steps, shares, left = self.nearest_among(places, count)
         while len(left):
@@ -250,50 +243,57 @@ class Pieces:
         return steps, shares, self.at(steps, shares)
 
     def nearest_few(self, places: Floats) -> list[tuple[int, float, Point]]:
-        """The same for a few points, as (step, position, point)."""
-        count = min(NEIGHBOURS, len(self.steps))
-        distances, near = (column.reshape(len(places), count) for column in self.tree.query(places, count))
-        farthest, found = distances[:, -1].tolist(), []
-        for place, pieces, most in zip(places.tolist(), near, farthest):
-            apart, step, share, point = self.nearest_of(place, pieces)
+        """The same for a few points, as (step, share, point)."""
+        count, found = min(NEIGHBOURS, len(self.steps)), list[Any]()
+        distances, near = self.around(places, count)
+        for place, pieces, most in zip(places.tolist(), near, distances[:, -1].tolist()):
+            apart, *best = self.nearest_of(place, pieces)
             number = count
             while number < len(self.steps) and self.is_unsure(apart, most):
                 number = min(4 * number, len(self.steps))
                 distances, pieces = self.tree.query(place, number)
-                (apart, step, share, point), most = self.nearest_of(place, pieces), float(distances[-1])
-            found.append((step, share, point))
+                apart, *best = self.nearest_of(place, pieces)
+                most = float(distances[-1])
+            found.append(tuple(best))
         return found
 
-    def nearest_of(self, place: Sequence[float], pieces: Integers) -> tuple[float, int, float, Point]:
-        """The nearest point to a place among those of some pieces: the square of the distance, the step, the position along it, and the point."""
-        steps = self.steps.take(pieces)
-        return min(foot(place[0], place[1], *each) for each in zip(steps.tolist(), self.rows.take(steps, axis=0).tolist()))
+    def around(self, places: Floats, count: int) -> tuple[Floats, Integers]:
+        """The pieces whose middles are nearest to places (n, `count`), with their distances."""
+        distances, near = self.tree.query(places, count)
+        return distances.reshape(len(places), count), near.reshape(len(places), count)
 
-    def is_unsure(self, apart: float, farthest: float) -> bool:
-        """Whether a piece whose middle is at least so far away may have a point that is as near as the nearest one known, by the square of its distance."""
-        return math.sqrt(apart) * (1 + 1e-9) + self.reach + 1e-12 >= farthest
+    def nearest_of(
+        self, place: Sequence[float], pieces: Integers,
+    ) -> tuple[float, int, float, Point]:
+        """The nearest point to a place among those of some pieces, as `foot` gives it."""
+        steps = self.steps.take(pieces)
+        rows = zip(steps.tolist(), self.rows.take(steps, axis=0).tolist())
+        return min(foot(place[0], place[1], step, row) for step, row in rows)
+
+    def is_unsure(self, apart: Any, farthest: Any) -> Any:
+        """Whether a piece so far away may have a nearer point than one at a distance squared."""
+        return apart**0.5 * (1 + 1e-9) + self.reach + 1e-12 >= farthest
 
     def nearest_among(self, places: Floats, count: int) -> tuple[Integers, Floats, Integers]:
-        """The nearest steps to places among the so many pieces whose middles are nearest, how far along they are nearest, and the numbers of places
-        to which others may be nearer."""
-        distances, near = (column.reshape(len(places), count) for column in self.tree.query(places, count))
+        """The nearest steps around places, their shares, and places with perhaps nearer ones."""
+        distances, near = self.around(places, count)
         among = self.steps.take(near)
         along, apart = self.feet(among, places[:, None])
         least = apart.min(axis=1)
         # Of equally near steps the first.
-        best = numpy.where(apart == least[:, None], among, len(self.rows)).argmin(axis=1) + count * numpy.arange(len(places))
-        # No point of a piece whose middle is farther away than all of these is nearer than this, nor as near.
-        is_unsure = numpy.sqrt(least) * (1 + 1e-9) + self.reach + 1e-12 >= distances[:, -1]
-        unsure = numpy.flatnonzero(is_unsure) if count < len(self.steps) else numpy.zeros(0, numpy.int64)
+        firsts = numpy.where(apart == least[:, None], among, len(self.rows)).argmin(axis=1)
+        best = firsts + count * numpy.arange(len(places))
+        are_all = count == len(self.steps)
+        unsure = numpy.flatnonzero(self.is_unsure(least, distances[:, -1]) & (not are_all))
         return among.reshape(-1)[best], along.reshape(-1)[best], unsure
 
     def within(self, places: Floats, distances: Floats) -> Any:
-        """The pieces with a point within a distance of each place, and some others; a point of a piece is at most `reach` from its middle."""
+        """The pieces with a point within a distance of each place, and some others."""
         return self.tree.query_ball_point(places, distances * (1 + 1e-9) + self.reach + 1e-12)
 
     def feet(self, steps: Integers, places: Floats) -> tuple[Floats, Floats]:
-        """The nearest points of steps to places, one each or one for each row of steps: how far along the step, from 0 to 1, and the square of the
-        distance."""
+        """The nearest points of steps to places, one for each or for each row: shares, distances
+        squared."""
         rows = self.rows.take(steps, axis=0)
         east, north = rows[..., 2], rows[..., 3]
         x, y = places[..., 0] - rows[..., 0], places[..., 1] - rows[..., 1]
@@ -306,42 +306,3 @@ class Pieces:
         """The points of the plane so far along steps."""
         rows = self.rows.take(steps, axis=0)
         return rows[:, :2] + rows[:, 2:4] * shares[:, None]
-
-    def nearest_some(self, place: Floats, most: int, firsts: Integers) -> tuple[Integers, Floats, Floats]:
-        """The nearest step of each of the nearest lines to one place, at most `most` of them, the nearest first. Lines start at `firsts`."""
-        def best_of(steps: Integers) -> tuple[Integers, Floats, Floats]:
-            """The nearest step of each line, in order; of equally near ones the first."""
-            shares, apart = self.feet(steps, place)
-            lines = numpy.searchsorted(firsts, steps, "right")
-            order = numpy.lexsort([steps, apart])
-            order = order[numpy.sort(numpy.unique(lines[order], return_index=True)[1])][:most]
-            return steps[order], shares[order], apart[order]
-
-        count, found = 4 * most, numpy.zeros(0, numpy.int64)
-        while len(found) < most:
-            distances, near = self.tree.query(place[0], min(count, len(self.steps)))
-            found, _, apart = best_of(self.steps[numpy.atleast_1d(near)])
-            if count >= len(self.steps):
-                break
-            count *= 2
-        # A point as near as the last of these may be on a piece whose middle is farther away.
-        [near] = self.within(place, numpy.sqrt(apart[-1:]))
-        steps, shares, _ = best_of(self.steps[numpy.asarray(near, int)])
-        return steps, shares, self.at(steps, shares)
-
-    def nearest_fitting(self, place: Floats, fits: Callable[[Integers], Marks]) -> tuple[Integers, Floats, Floats]:
-        """The nearest step to one place among those for which `fits` holds, which takes an array of steps."""
-        count, found = 16, numpy.zeros(0, int)
-        while not len(found):
-            distances, near = self.tree.query(place[0], min(count, len(self.steps)))
-            distances, steps = numpy.atleast_1d(distances), numpy.unique(self.steps[numpy.atleast_1d(near)])
-            steps = steps[fits(steps)]
-            shares, apart = self.feet(steps, place)
-            # The steps that were not checked are at least this far away.
-            least = numpy.inf if count >= len(self.steps) else distances[-1] - self.reach
-            found = numpy.lexsort([steps, apart])[:1]
-            found = found[numpy.sqrt(apart[found]) <= least]
-            if count >= len(self.steps):
-                break
-            count *= 4
-        return steps[found], shares[found], self.at(steps[found], shares[found])

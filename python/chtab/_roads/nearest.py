@@ -1,4 +1,5 @@
-"""Finds the nodes nearest to places: by scipy's k-d tree if scipy and numpy are installed, and otherwise by a grid."""
+"""Finds the nodes nearest to places: by scipy's k-d tree if scipy and numpy are installed, and
+otherwise by a grid."""
 from __future__ import annotations
 
 import collections
@@ -36,7 +37,7 @@ class Tree:
 
 
 class Grid:
-    """The nodes in cubes of equal size. The nearest node is in the first shells of cubes around a place."""
+    """The nodes in cubes of equal size. The nearest one is in the shells around a place."""
 
     def __init__(self, coordinates: files.Coordinates) -> None:
         self.points = {node: sphere.point(*coordinates.of(node)) for node in coordinates.known()}
@@ -50,7 +51,9 @@ class Grid:
         """The nearest node to each place, and the metres between them, as lists."""
         wanted = [sphere.point(*place) for place in zip(longitudes, latitudes)]
         found = [self.nearest_to(at) for at in wanted]
-        return found, [sphere.metres(math.dist(at, self.points[node])) for at, node in zip(wanted, found)]
+        return (
+            found,
+            [sphere.metres(math.dist(at, self.points[node])) for at, node in zip(wanted, found)])
 
     def cube(self, at: Sequence[float]) -> tuple[int, ...]:
         return tuple(math.floor(part / self.side) for part in at)
@@ -71,7 +74,7 @@ class Grid:
                     yield from self.cubes.get((x + a, y + b, z + c), ())
 
     def nearest_to(self, at: Sequence[float]) -> int:
-        """The nearest node, and of equally near ones the least numbered. All nodes within `reach` cubes are nearer than those beyond."""
+        """The nearest node, of equally near ones the least numbered, in shells that grow."""
         middle, reach, best = self.cube(at), 0, (math.inf, 0)
         while best[0] > (reach - 1) * self.side:
             found = [(math.dist(at, self.points[node]), node) for node in self.shell(middle, reach)]
@@ -84,7 +87,7 @@ class Grid:
 
 
 def index_of(coordinates: files.Coordinates, plain: bool = False) -> Tree | Grid:
-    """Makes an index of nodes by their places: a tree, or a grid if `plain` asks for it or scipy isn't installed."""
+    """Finds nodes by places: by a tree, or by a grid if `plain` says so or scipy is missing."""
     try:
         return Grid(coordinates) if plain else Tree(coordinates)
     except ImportError:

@@ -8,7 +8,7 @@ import numpy
 
 from chtab.errors import DataFault
 from chtab._files import row_index
-from chtab._files.columns import EXACT, first_of, numbers_in, refused
+from chtab._files.columns import EXACT, numbers_in, refuse
 from chtab._roads.arc_names import ArcNames
 from chtab._roads.snapping import Spots
 
@@ -20,8 +20,7 @@ if TYPE_CHECKING:
 
 
 def listed(name: str, given: Any) -> Any:
-    """The argument itself, or a list of its items if it is a set, a view of a dict, or an
-    iterator."""
+    """The argument, or a list of it if it is a set, a view of a dict, or an iterator."""
     if isinstance(given, Spots):
         text = f"{name} are labels of nodes, not Spots: `trip_table` and `trips` take these"
         raise TypeError(f"{text}, and `nearest_nodes` gives nodes")
@@ -63,15 +62,14 @@ def with_ends(layers: Layers, pairs: Integers) -> Integers:
 
 
 def values_of_rows(layers: Layers, values: Any, name: str = "values") -> NDArray[Any]:
-    """The finite values of all rows, in one column or several: int64, or float64. Columns of pandas
-    are put in the order of rows."""
+    """The finite values of all rows, in one or several columns, in the order of rows."""
     given = ArcNames(layers).in_rows(name, values) if hasattr(values, "iloc") else values
     found = numpy.asarray(given)
     if found.ndim != 2:
         columns = [(name, given)]
     else:
         columns = [(f"{name}[:, {place}]", found[:, place]) for place in range(found.shape[1])]
-    made = [finite_numbers(told, column) for told, column in columns]
+    made = [finite_numbers(*column) for column in columns]
     count = layers.row_count
     if len(found) != count:
         text = f"{name} has {len(found):,} rows, and there are {count:,} rows of arcs"
@@ -85,15 +83,12 @@ def finite_numbers(name: str, column: Any) -> NDArray[Any]:
     """The numbers of a column: int64, or float64."""
     found = numbers_in(name, column)
     found = found if found.dtype == numpy.int64 else found.astype(float)
-    place = first_of(~numpy.isfinite(found))
-    if place is not None:
-        raise refused(name, place, f"{found[place]} is no value")
+    refuse(name, ~numpy.isfinite(found), lambda row: f"{found[row]} is no value")
     return found
 
 
 def along(engine: InProcess, layers: Layers, values: NDArray[Any], pairs: Integers) -> Floats:
-    """The sums of the values of rows along the routes of pairs, (n,) or (n, c); NaN where no path
-    leads."""
+    """The sums of values of rows along routes of pairs, (n,) or (n, c); NaN for no path."""
     nodes = with_ends(layers, pairs)
     if are_counts(values, engine.nodes):
         weights, totals = engine.sums(nodes, values.astype(numpy.uint64)[layers.rows])
@@ -110,13 +105,7 @@ def along(engine: InProcess, layers: Layers, values: NDArray[Any], pairs: Intege
 
 
 def are_counts(values: NDArray[Any], most: int) -> bool:
-    """Whether values are whole numbers from 0 on, of which the sum of any `most` is exact as a
-    float."""
-    if (
-        values.ndim != 1
-        or values.dtype.kind not in "iu"
-        or not len(values)
-        or int(values.min()) < 0
-    ):
+    """Whether values are whole numbers from 0 on, `most` of which add up exactly as floats."""
+    if values.ndim != 1 or values.dtype.kind not in "iu" or not len(values):
         return False
-    return int(values.max()) * most <= EXACT
+    return int(values.min()) >= 0 and int(values.max()) * most <= EXACT

@@ -1,8 +1,9 @@
-"""What is reached from a spot: polygons around the roads that are reached within a limit, as GeoJSON.
+"""What is reached from a spot: polygons around the roads that are reached within a limit, as
+GeoJSON.
 
-Roads are sampled onto a grid of squares, each with the least weight of the points in it. A polygon consists of the squares up to a weight and of
-those around them, smoothed. Its border is therefore as exact as a square is wide. Making it takes time by the length of the roads, not by their
-bends.
+Roads are sampled onto a grid of squares, each with the least weight of the points in it. A polygon
+consists of the squares up to a weight and of those around them, smoothed. Its border is therefore
+as exact as a square is wide. Making it takes time by the length of the roads, not by their bends.
 """
 from __future__ import annotations
 
@@ -10,9 +11,11 @@ from collections.abc import Sequence
 from typing import TYPE_CHECKING, Any
 
 import numpy
+from scipy.ndimage import minimum_filter
 from shapely.geometry import MultiPolygon, Polygon, box
 from shapely.ops import unary_union
 
+from chtab._engine.walks import ranges
 from chtab._files.showing import OnMap
 from chtab._roads import sphere
 from chtab._roads.lines import degrees, mercator
@@ -31,16 +34,17 @@ FEW = 8
 
 
 def samples(network_roads: Roads, times: Integers, spacing: float) -> tuple[Floats, Floats]:
-    """Points of roads in the plane, at most `spacing` apart, and the weight at which each is reached. `times` has the weights of nodes, which count
-    from 1; -1 if a node is not reached."""
+    """Points of roads in the plane, at most `spacing` apart, and the weights at which they are
+    reached, by the `times` of nodes, -1 if they aren't."""
     arcs, ends, parts = network_roads.segments()
     firsts = times[network_roads.tails[arcs] - 1]
     kept = (firsts >= 0) & ~numpy.isnan(ends).any(axis=1)
     arcs, ends, parts, firsts = arcs[kept], ends[kept], parts[kept], firsts[kept]
     starts, stops = mercator(*ends[:, :2].T), mercator(*ends[:, 2:].T)
-    counts = numpy.maximum(1, numpy.ceil(numpy.hypot(*(stops - starts).T) / spacing)).astype(int) + 1
+    lengths = numpy.hypot(*(stops - starts).T)
+    counts = numpy.maximum(1, numpy.ceil(lengths / spacing)).astype(int) + 1
     segment = numpy.repeat(numpy.arange(len(arcs)), counts)
-    step = (numpy.arange(counts.sum()) - numpy.repeat(numpy.cumsum(counts) - counts, counts)) / (counts[segment] - 1)
+    step = ranges(numpy.zeros(len(counts), int), counts) / (counts[segment] - 1)
     part = parts[segment, 0] + (parts[segment, 1] - parts[segment, 0]) * step
     at = starts[segment] + (stops - starts)[segment] * step[:, None]
     return at, firsts[segment] + part * network_roads.weights[arcs[segment]]
@@ -62,7 +66,7 @@ def start_samples(network_roads: Roads, spot: Spots, spacing: float) -> tuple[Fl
 
 
 def grid_of(at: Floats, weights: Floats, width: float) -> tuple[Floats, Floats]:
-    """The least weight in each square, and the corner of the first square. Four empty squares are added on each side."""
+    """The least weight in each square, four empty ones on each side, and the first corner."""
     corner = at.min(axis=0) - 4 * width
     square = ((at - corner) / width).astype(int)
     grid = numpy.full(square.max(axis=0) + 5, numpy.inf)
@@ -71,25 +75,13 @@ def grid_of(at: Floats, weights: Floats, width: float) -> tuple[Floats, Floats]:
     return grid, corner
 
 
-def spread(grid: Floats, reach: int) -> Floats:
-    """Gives each square the least weight of the squares within `reach` of it."""
-    for _ in range(reach):
-        for axis in (0, 1):
-            behind, ahead = numpy.roll(grid, 1, axis), numpy.roll(grid, -1, axis)
-            grid = numpy.minimum(grid, numpy.minimum(behind, ahead))
-    return grid
-
-
 def outline(inside: Marks, corner: Floats, width: float) -> list[Any]:
     """The squares that are inside, as polygons in the plane."""
     edges = numpy.diff(numpy.pad(inside, ((0, 0), (1, 1))).astype(numpy.int8), axis=1)
     runs = zip(numpy.argwhere(edges == 1), numpy.argwhere(edges == -1)[:, 1])
-    rows = [
-        box(corner[0] + row * width, corner[1] + low * width, corner[0] + (row + 1) * width, corner[1] + high * width)
-        for (row, low), high in runs
-    ]
-    whole = unary_union(rows)
-    return list(whole.geoms) if isinstance(whole, MultiPolygon) else [whole]
+    corners = [((row, low), (row + 1, high)) for (row, low), high in runs]
+    united = unary_union([box(*(corner + width * numpy.array(both)).flat) for both in corners])
+    return list(united.geoms) if isinstance(united, MultiPolygon) else [united]
 
 
 def smooth(ring: Any, width: float) -> list[Point]:
@@ -97,12 +89,14 @@ def smooth(ring: Any, width: float) -> list[Point]:
     line = numpy.array(Polygon(ring).simplify(0.75 * width).exterior.coords)[:-1]
     for _ in range(2):
         after = numpy.roll(line, -1, axis=0)
-        line = numpy.stack([0.75 * line + 0.25 * after, 0.25 * line + 0.75 * after], axis=1).reshape(-1, 2)
-    return [(round(float(x), 6), round(float(y), 6)) for x, y in zip(*degrees(*numpy.vstack([line, line[:1]]).T))]
+        corners = [0.75 * line + 0.25 * after, 0.25 * line + 0.75 * after]
+        line = numpy.stack(corners, axis=1).reshape(-1, 2)
+    places = zip(*degrees(*numpy.vstack([line, line[:1]]).T))
+    return [(round(float(x), 6), round(float(y), 6)) for x, y in places]
 
 
 class Isochrones(OnMap, dict):
-    """A collection of GeoJSON with a MultiPolygon for each limit, the largest first, whose property `limit` is the limit."""
+    """A collection of GeoJSON: a MultiPolygon for each `limit`, the largest first."""
 
     shown_by = "limit"
 
@@ -123,25 +117,31 @@ class Isochrones(OnMap, dict):
 
 def polygons_of(inside: Marks, corner: Floats, width: float) -> list[list[list[Point]]]:
     """The coordinates of a GeoJSON MultiPolygon."""
-    least = FEW * width * width
-    return [
-        [smooth(ring, width) for ring in (part.exterior, *part.interiors) if ring is part.exterior or Polygon(ring).area > least]
-        for part in outline(inside, corner, width)
-        if Polygon(part.exterior).area > least
-    ]
+    def is_large(ring: Any) -> bool:
+        return Polygon(ring).area > FEW * width * width
+
+    parts = [part for part in outline(inside, corner, width) if is_large(part.exterior)]
+    rings = [[part.exterior, *filter(is_large, part.interiors)] for part in parts]
+    return [[smooth(ring, width) for ring in own] for own in rings]
 
 
-def polygons(network_roads: Roads, spot: Spots, times: Integers, limits: Sequence[float]) -> list[Any]:
-    """The coordinates of a MultiPolygon for each limit, the largest first. `times` are the weights at which nodes are reached from the spot; -1 if a
-    node is not reached, or not within the largest limit."""
+def polygons(
+    network_roads: Roads, spot: Spots, times: Integers, limits: Sequence[float],
+) -> list[Any]:
+    """The coordinates of a MultiPolygon for each limit, the largest first, by `times` of nodes."""
     metre = 1 / (sphere.RADIUS * numpy.cos(numpy.radians(spot.latitudes[0])))
     near = numpy.flatnonzero((times >= 0) & (times <= limits[0]))
-    places = mercator(*numpy.vstack([network_roads.places[near], [[spot.longitudes[0], spot.latitudes[0]]]]).T)
-    width = max(NARROWEST * metre, numpy.nanmax(numpy.nanmax(places, axis=0) - numpy.nanmin(places, axis=0)) / SQUARES)
-    columns = zip(samples(network_roads, numpy.where(times <= limits[0], times, -1), width / 2), start_samples(network_roads, spot, width / 2))
+    start = spot.longitudes[0], spot.latitudes[0]
+    places = mercator(*numpy.vstack([network_roads.places[near], start]).T)
+    sizes = numpy.nanmax(places, axis=0) - numpy.nanmin(places, axis=0)
+    width = max(NARROWEST * metre, numpy.nanmax(sizes) / SQUARES)
+    of_roads = samples(network_roads, numpy.where(times <= limits[0], times, -1), width / 2)
+    columns = zip(of_roads, start_samples(network_roads, spot, width / 2))
     at, weights = (numpy.concatenate(column) for column in columns)
     at, weights = at[weights <= limits[0]], weights[weights <= limits[0]]
     grid, corner = grid_of(at, weights, width)
-    grid = spread(numpy.pad(grid, 4, constant_values=numpy.inf), max(1, round(AROUND * metre / width)))
-    corner = corner - 4 * width
+    # Each square gets the least weight of those within reach of it.
+    reach = max(1, round(AROUND * metre / width))
+    grid, corner = numpy.pad(grid, 4, constant_values=numpy.inf), corner - 4 * width
+    grid = minimum_filter(grid, 2 * reach + 1, mode="constant", cval=numpy.inf)
     return [polygons_of(grid <= limit, corner, width) for limit in limits]

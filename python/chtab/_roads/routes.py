@@ -12,7 +12,6 @@ from chtab._files import geojson, showing
 from chtab.files import Answer
 
 if TYPE_CHECKING:
-    import geopandas
     import pandas
     from numpy.typing import NDArray
 
@@ -36,15 +35,14 @@ class Routes(showing.OnMap, collections.abc.Sequence):
     """
 
     # What colours a map.
-    shown_by = "weight"
+    shown_by, _is_framed = "weight", True
 
     def __init__(self, pairs: Integers, paths: Paths, layers: Layers) -> None:
         # The pairs of nodes by their numbers, their paths, and the files of the network.
         self.pairs, self.paths, self.layers = pairs, paths, layers
-        self.heads, self.arc_weights = (
-            numpy.asarray(column)[paths.arcs]
-            for column in (layers.graph.heads, layers.graph.weights)
-        )
+        graph = layers.graph
+        self.heads = numpy.asarray(graph.heads)[paths.arcs]
+        self.arc_weights = numpy.asarray(graph.weights)[paths.arcs]
         self.firsts = numpy.append(0, numpy.cumsum(paths.counts))
         sums = numpy.diff(numpy.append(0, numpy.cumsum(self.arc_weights))[self.firsts])
         if (sums != paths.weights)[paths.weights >= 0].any():
@@ -61,24 +59,12 @@ class Routes(showing.OnMap, collections.abc.Sequence):
         heads = labels.of(self.heads).tolist()
         weights = measure.in_unit(self.arc_weights).tolist()
         found = zip(
-            sources,
-            targets,
-            self.paths.weights.tolist(),
-            self.firsts.tolist(),
-            self.firsts[1:].tolist(),
-        )
+            sources, targets, self.paths.weights.tolist(), self.firsts.tolist(),
+            self.firsts[1:].tolist())
         return [
-            Answer(source, target, None, None, None)
-            if weight < 0
-            else Answer(
-                source,
-                target,
-                measure.one(weight),
-                [source, *heads[first:last]],
-                weights[first:last],
-            )
-            for source, target, weight, first, last in found
-        ]
+            Answer(source, target, None, None, None) if weight < 0 else Answer(
+                source, target, measure.one(weight), [source, *heads[first:last]],
+                weights[first:last]) for source, target, weight, first, last in found]
 
     def __len__(self) -> int:
         return len(self.pairs)
@@ -100,8 +86,7 @@ class Routes(showing.OnMap, collections.abc.Sequence):
         found = numpy.split(self.layers.rows_of(self.paths.arcs), self.firsts[1:-1])
         return [
             rows if weight >= 0 else None
-            for rows, weight in zip(found, self.paths.weights.tolist())
-        ]
+            for rows, weight in zip(found, self.paths.weights.tolist())]
 
     def edges(self) -> list[list[tuple] | None]:
         """Returns the arcs of the routes by their nodes, as networkx and osmnx name edges.
@@ -122,10 +107,8 @@ class Routes(showing.OnMap, collections.abc.Sequence):
                 continue
             ends = zip(answer.nodes, answer.nodes[1:])
             found.append(
-                [(*pair, keys[row]) for pair, row in zip(ends, rows.tolist())]
-                if keys
-                else list(ends)
-            )
+                [(*pair, keys[row]) for pair, row in zip(ends, rows.tolist())] if keys
+                else list(ends))
         return found
 
     def to_frame(self, metres: bool = False) -> pandas.DataFrame:
@@ -203,31 +186,10 @@ class Routes(showing.OnMap, collections.abc.Sequence):
         is_there = self.paths.weights >= 0
         lines = iter(
             self.layers.lines_of(
-                self.pairs[is_there, 0], self.paths.counts[is_there], self.paths.arcs
-            )
-        )
+                self.pairs[is_there, 0], self.paths.counts[is_there], self.paths.arcs))
         return geojson.collection(
             geojson.query_feature(place, each, next(lines) if each.nodes else None, names or {})
-            for place, each in enumerate(self)
-        )
-
-    def to_geodataframe(self) -> geopandas.GeoDataFrame:
-        """Returns the routes as a GeoDataFrame.
-
-        Returns
-        -------
-        geopandas.GeoDataFrame
-            A row for each pair, as `to_frame` has it, with its line in degrees (EPSG:4326), or None
-            where no path leads.
-
-        Raises
-        ------
-        ImportError
-            geopandas is not installed.
-        ChtabError
-            The network has no places of nodes.
-        """
-        return showing.with_geometry(self.to_frame(), super().to_geodataframe().geometry.to_list())
+            for place, each in enumerate(self))
 
 
 class Trip(NamedTuple):
@@ -269,10 +231,9 @@ class Trip(NamedTuple):
 
 
 class TripRoutes(showing.OnMap, list):
-    """Trips in the order of their spots: a list of `Trip`, which makes frames, GeoJSON and
-    pictures."""
+    """Trips in the order of their spots: a list of `Trip`, in frames, GeoJSON and pictures."""
 
-    shown_by = "weight"
+    shown_by, _is_framed = "weight", True
 
     def __repr__(self) -> str:
         return f"<{len(self):,} trips>"
@@ -287,8 +248,7 @@ class TripRoutes(showing.OnMap, list):
             place), `weight` and `metres`. Where there is no way the geometry and both are null.
         """
         return geojson.collection(
-            each.to_geojson({"query": place}) for place, each in enumerate(self)
-        )
+            each.to_geojson({"query": place}) for place, each in enumerate(self))
 
     def to_frame(self) -> pandas.DataFrame:
         """Returns the trips as a frame.
@@ -306,24 +266,5 @@ class TripRoutes(showing.OnMap, list):
         """
         import pandas
 
-        return (
-            pandas.DataFrame([each._replace(line=None) for each in self], columns=Trip._fields)
-            .drop(columns="line")
-            .rename_axis("query")
-        )
-
-    def to_geodataframe(self) -> geopandas.GeoDataFrame:
-        """Returns the trips as a GeoDataFrame.
-
-        Returns
-        -------
-        geopandas.GeoDataFrame
-            A row for each trip, as `to_frame` has it, with its line in degrees (EPSG:4326), or None
-            where there is no way.
-
-        Raises
-        ------
-        ImportError
-            geopandas is not installed.
-        """
-        return showing.with_geometry(self.to_frame(), super().to_geodataframe().geometry.to_list())
+        rows = [(each.weight, each.metres, each.nodes) for each in self]
+        return pandas.DataFrame(rows, columns=["weight", "metres", "nodes"]).rename_axis("query")

@@ -15,15 +15,7 @@ if TYPE_CHECKING:
 
 
 class RowLabels:
-    """What the rows of a network are called in the frame that it was made of.
-
-    Parameters
-    ----------
-    labels : array of labels or None
-        As `row_index.kept` gives them. Rows after these were added, and have no label.
-    count : int
-        How many rows there are.
-    """
+    """What the first rows of a network are called in the caller's frame, as `kept` gives it."""
 
     def __init__(self, labels: LabelArray | None, count: int) -> None:
         self.labels, self.count = labels, count
@@ -34,25 +26,17 @@ class RowLabels:
         return self.count if self.labels is None else len(self.labels)
 
     def found(self, name: str, index: Any) -> Found | None:
-        """The rows that the labels of an index name, in the order of these. None if one of them is
-        no label of a row, so that it may be another name of arcs.
-
-        Raises
-        ------
-        DataFault
-            A label is that of several rows, or it is a number that is no label, which could be
-            taken for the number of a row.
-        """
+        """The rows that labels of an index name; None if these may name arcs otherwise. A label of
+        several rows is refused, and a number that is none, as it could be taken for a row."""
         try:
             wanted = row_index.labels_in(index)
         except DataFault:
             return None
         places = numpy.arange(len(wanted))
         if self.labels is None:
-            is_here = wanted.dtype == numpy.int64 and bool(
-                ((wanted >= 0) & (wanted < self.count)).all()
-            )
-            return Found(wanted, places) if is_here else None
+            if wanted.dtype == object or not ((wanted >= 0) & (wanted < self.count)).all():
+                return None
+            return Found(wanted, places)
         if wanted.dtype == self.labels.dtype and numpy.array_equal(wanted, self.labels):
             return Found(places, places)
         found = self.matched(self.labels, wanted)
@@ -61,12 +45,8 @@ class RowLabels:
         if missing is not None and columns.is_integer(type(label_of(wanted, missing))):
             raise refused(name, missing, self.why_missing(label_of(wanted, missing)))
         if missing is None and several is not None:
-            raise refused(
-                name,
-                several,
-                f"{counts[several]} rows of the frame are called "
-                f"{quoted(label_of(wanted, several))}",
-            )
+            called = quoted(label_of(wanted, several))
+            raise refused(name, several, f"{counts[several]} rows of the frame are called {called}")
         return found if missing is None else None
 
     def matched(self, labels: LabelArray, wanted: LabelArray) -> Found:
@@ -82,30 +62,21 @@ class RowLabels:
         """Why a number names no row."""
         if self.covered:
             return f"no row of the frame is called {quoted(label)}"
-        return (
-            f"nothing says which row is called {quoted(label)}: give an array, or a list, in the "
-            "order of rows"
-        )
+        text = f"nothing says which row is called {quoted(label)}"
+        return f"{text}: give an array, or a list, in the order of rows"
 
     def see_that_plain(self, name: str, places: Integers, rows: Integers) -> None:
         """Refuses the first number of a row that is also what another row is called."""
         if self.labels is None or self.labels.dtype != numpy.int64:
             return
         own = numpy.append(self.labels, numpy.full(max(self.count - len(self.labels), 0) + 1, -1))
-        either = columns.first_of(
-            numpy.isin(rows, self.labels) & (own[numpy.minimum(rows, len(own) - 1)] != rows)
-        )
+        are_others = own[numpy.minimum(rows, len(own) - 1)] != rows
+        either = columns.first_of(numpy.isin(rows, self.labels) & are_others)
         if either is not None:
             row = int(rows[either])
-            hint = (
-                f"frame.index[[{row}]] of your frame is row {row}, and pandas.Index([{row}]) the "
-                "row that is called so"
-            )
-            raise refused(
-                name,
-                int(places[either]),
-                f"{row} is the number of a row, and what another one is called: {hint}",
-            )
+            text = f"{row} is the number of a row, and what another one is called"
+            hint = f"frame.index[[{row}]] of your frame is row {row}, and pandas.Index([{row}]) the"
+            raise refused(name, int(places[either]), f"{text}: {hint} row that is called so")
 
 
 def label_of(labels: LabelArray, place: int) -> Any:

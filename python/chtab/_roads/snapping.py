@@ -1,8 +1,10 @@
-"""Places on roads. Each place is taken to the nearest point of the nearest road, and trips leave and reach it by the ends of this road.
+"""Places on roads. Each place is taken to the nearest point of the nearest road, and trips leave
+and reach it by the ends of this road.
 
-A road is a line with an arc along it, or with two of opposite directions: from `first` to `last` with the weight `forward`, and back with `backward`.
-Where turns are restricted, a crossing has several nodes, and several arcs lead along a road. The node at which a trip arrives then decides which
-turns are open to it.
+A road is a line with an arc along it, or with two of opposite directions: from `first` to `last`
+with the weight `forward`, and back with `backward`. Where turns are restricted, a crossing has
+several nodes, and several arcs lead along a road. The node at which a trip arrives then decides
+which turns are open to it.
 """
 from __future__ import annotations
 
@@ -19,7 +21,7 @@ from chtab._engine.walks import ranges
 from chtab.errors import ChtabError, DataFault, TooFar
 from chtab._files import row_index
 from chtab._files.columns import degrees_in, see_that_long, quoted
-from chtab._files.showing import SHOWN, table_text
+from chtab._files.showing import SHOWN, table_of
 from chtab._roads import sphere
 from chtab._roads.leaving import NONE, Few, both_ways, ways_of
 from chtab._roads.lines import Lines, metres_between
@@ -36,8 +38,6 @@ FORWARD, BACKWARD = 1, 2
 AT_END = 1.0
 # Spots of two networks that are at most this many metres apart are at the same point.
 SAME = 0.01
-# The least part of a road between its end and a spot that is not at the end.
-INSIDE = 1e-9
 # Up to so many places are taken to roads one by one: to call numpy takes longer.
 FEW = 3
 # Metres in a nanometre.
@@ -45,30 +45,37 @@ NANOMETRE = 1e-9
 
 
 def places_in(longitudes: Column, latitudes: Column) -> list[Floats]:
-    """Two columns of degrees that go together. Raises a `DataFault` if a value is no degree, such as NaN."""
+    """Two columns of degrees that go together; what is no degree is refused."""
     names = "longitudes", "latitudes"
-    columns = row_index.matched(names, (longitudes, latitudes))
-    found = [degrees_in(name, column, most) for name, column, most in zip(names, columns, (180, 90))]
+    columns = zip(names, row_index.matched(names, (longitudes, latitudes)), (180, 90))
+    found = [degrees_in(name, column, most) for name, column, most in columns]
     see_that_long(names, found)
     return found
 
 
 def metres_in(max_metres: float | None) -> float:
-    """The largest distance of a place from its road or node: a number from 0 on, or None for any distance."""
+    """The largest distance of a place from its road or node; infinity for None."""
     if max_metres is None:
         return math.inf
     if isinstance(max_metres, bool) or not isinstance(max_metres, numbers.Real):
-        raise TypeError(f"max_metres is a number of metres, or None for any distance, not {max_metres!r}")
+        text = "max_metres is a number of metres, or None for any distance, not"
+        raise TypeError(f"{text} {max_metres!r}")
     if not max_metres >= 0:
-        raise ValueError(f"max_metres is {max_metres!r}: it is a number from 0 on, or None for any distance")
+        text = "it is a number from 0 on, or None for any distance"
+        raise ValueError(f"max_metres is {max_metres!r}: {text}")
     return float(max_metres)
 
 
-def see_that_near(longitudes: Floats, latitudes: Floats, metres: Floats, max_metres: float, what: str) -> None:
-    """Raises a `TooFar` with the places that are farther than `max_metres` from each road, or node."""
+def see_that_near(
+    longitudes: Floats, latitudes: Floats, metres: Floats, max_metres: float, what: str,
+) -> None:
+    """Refuses places that are farther than `max_metres` from each road, or node."""
     far = numpy.flatnonzero(~(metres <= max_metres)).tolist()
     if far:
-        text = far_text(longitudes[far[0]], latitudes[far[0]], metres[far[0]], what, max_metres)
+        place = f"{longitudes[far[0]]:.6f} {latitudes[far[0]]:.6f}"
+        lengths = length_text(metres[far[0]]), length_text(max_metres)
+        text = f"{place} is {lengths[0]} from the nearest {what}, more than {lengths[1]}"
+        text += "; longitude comes first, then latitude"
         raise TooFar(text, {place: float(metres[place]) for place in far})
 
 
@@ -76,21 +83,17 @@ def length_text(metres: float) -> str:
     """A length as a person would write it: 640 m, 18.6 km, 5,467 km."""
     if metres < 999.5:
         return f"{metres:.0f} m"
-    return f"{metres / 1000:.1f}".removesuffix(".0") + " km" if metres < 99_950 else f"{metres / 1000:,.0f} km"
-
-
-def far_text(longitude: float, latitude: float, metres: float, what: str, most: float) -> str:
-    """The message about a place that is too far from each road, or node."""
-    return f"{longitude:.6f} {latitude:.6f} is {length_text(metres)} from the nearest {what}, more than {length_text(most)}; " \
-        "longitude comes first, then latitude"
+    if metres < 99_950:
+        return f"{metres / 1000:.1f}".removesuffix(".0") + " km"
+    return f"{metres / 1000:,.0f} km"
 
 
 class Origin(NamedTuple):
-    """Where spots were found: digests of the network's roads and of the places of its nodes, and how far a place may be from its road. Without the
-    last two spots are not found anew in another network."""
+    """Where spots were found: digests of the network's roads and of the places of its nodes."""
 
     roads: bytes
     nodes: bytes = b""
+    # How far a place may be from its road where it is found anew in another network.
     max_metres: float = math.inf
 
 
@@ -98,11 +101,14 @@ class Origin(NamedTuple):
 class Spots:
     """Places on roads, in arrays with an item for each place.
 
-    `longitudes` and `latitudes` are the points on the roads in degrees, and `metres` their distances from the places. Spot k is on road `roads[k]` at
-    the part `parts[k]` of it (0 at `first`, 1 at `last`). Trips leave it by the nodes `out_nodes[k]` at the weights `out_weights[k]`, and arrive by
-    `in_nodes[k]` at `in_weights[k]`, in whole numbers of the graph; `NONE` stands for no node. The first half of each of these are nodes of `first`,
-    the second half nodes of `last`: one each, or several where turns are restricted. `sides[k]` has the directions in which trips may use the road at
-    the spot, `FORWARD`, `BACKWARD` or both; the road itself may be closed in one of them.
+    `longitudes` and `latitudes` are the points on the roads in degrees, and `metres` their
+    distances from the places. Spot k is on road `roads[k]` at the part `parts[k]` of it (0 at
+    `first`, 1 at `last`). Trips leave it by the nodes `out_nodes[k]` at the weights
+    `out_weights[k]`, and arrive by `in_nodes[k]` at `in_weights[k]`, in whole numbers of the graph;
+    `NONE` stands for no node. The first half of each of these are nodes of `first`, the second half
+    nodes of `last`: one each, or several where turns are restricted. `sides[k]` has the directions
+    in which trips may use the road at the spot, `FORWARD`, `BACKWARD` or both; the road itself may
+    be closed in one of them.
     """
 
     longitudes: Floats
@@ -128,12 +134,14 @@ class Spots:
 
     def _repr_html_(self) -> str:
         names = "longitudes", "latitudes", "metres", "roads", "parts"
-        rows = zip(*(getattr(self, name)[:SHOWN].tolist() for name in names))
-        return table_text(repr(self), [dict(zip(names, row)) for row in rows])
+        columns = {name: getattr(self, name)[:SHOWN].tolist() for name in names}
+        return table_of(repr(self), **columns)
 
     def columns(self) -> dict[str, NDArray[Any]]:
         """The arrays by their names."""
-        return {name: column for name, column in vars(self).items() if isinstance(column, numpy.ndarray)}
+        return {
+            name: column for name, column in vars(self).items()
+            if isinstance(column, numpy.ndarray)}
 
     def __len__(self) -> int:
         return len(self.roads)
@@ -154,19 +162,9 @@ class Spots:
     def joined(parts: Sequence[Spots]) -> Spots:
         """Joins spots of one network, one after the other."""
         columns = [part.columns() for part in parts]
-        return replace(parts[0], **{name: numpy.concatenate([each[name] for each in columns]) for name in columns[0]})
-
-
-def one_sided(spots: Spots, sides: Integers) -> Spots:
-    """The same spots, which trips leave and reach only in some directions of their roads."""
-    # Who drives forward comes from `first` and goes to `last`.
-    backward, forward = ((sides & side == 0)[:, None] for side in (BACKWARD, FORWARD))
-    # A road may have more nodes into it than out of it.
-    closed = numpy.repeat(numpy.hstack([backward, forward]), spots.out_nodes.shape[1] // 2, axis=1)
-    shut = numpy.repeat(numpy.hstack([forward, backward]), spots.in_nodes.shape[1] // 2, axis=1)
-    out_nodes, out_weights = (numpy.where(closed, NONE, column) for column in (spots.out_nodes, spots.out_weights))
-    in_nodes, in_weights = (numpy.where(shut, NONE, column) for column in (spots.in_nodes, spots.in_weights))
-    return replace(spots, out_nodes=out_nodes, out_weights=out_weights, in_nodes=in_nodes, in_weights=in_weights, sides=sides)
+        return replace(
+            parts[0],
+            **{name: numpy.concatenate([each[name] for each in columns]) for name in columns[0]})
 
 
 def digest_of(*columns: NDArray[Any]) -> bytes:
@@ -178,20 +176,14 @@ def digest_of(*columns: NDArray[Any]) -> bytes:
 
 
 class Roads:
-    """The roads of a graph. `firsts` and `lasts` are the nodes at their ends where trips start, and `lines` their lines.
+    """The roads of a graph, from the nodes `firsts` to `lasts`, and their `lines`."""
 
-    Parameters
-    ----------
-    graph : files.Graph
-        The arcs.
-    coordinates : files.Coordinates
-        The places of nodes.
-    bends : dict of int to list, optional
-        The points of arcs between their ends, as `files.read_bends` gives them.
-    """
-
-    def __init__(self, graph: files.Graph, coordinates: files.Coordinates, bends: Mapping[int, Sequence[Point]] | None = None) -> None:
-        self.tails, self.heads, self.weights = (numpy.array(column, numpy.int64) for column in (graph.tails, graph.heads, graph.weights))
+    def __init__(
+        self, graph: files.Graph, coordinates: files.Coordinates,
+        bends: Mapping[int, Sequence[Point]] | None = None,
+    ) -> None:
+        self.tails, self.heads, self.weights = (
+            numpy.array(column, numpy.int64) for column in graph[1:4])
         self.ends = coordinates.ends()
         known = numpy.column_stack([coordinates.longitudes, coordinates.latitudes])
         self.places = numpy.full((graph.nodes, 2), numpy.nan)
@@ -202,29 +194,36 @@ class Roads:
         for copy, node in coordinates.copies().items():
             crossing[copy] = node
         # The road of each arc, or NONE, and whether the arc leads back along it.
-        self.road_of, self.is_back = numpy.full(len(self.tails), NONE), crossing[self.tails] > crossing[self.heads]
+        self.road_of = numpy.full(len(self.tails), NONE)
+        self.is_back = crossing[self.tails] > crossing[self.heads]
         self.find_roads(crossing[self.tails], crossing[self.heads], {} if bends is None else bends)
         self.find_ways()
-        own = self.tails, self.heads, self.weights, self.firsts, self.lasts, self.places, self.forward, self.backward, self.road_of, self.is_back
+        own = (
+            self.tails, self.heads, self.weights, self.firsts, self.lasts, self.places,
+            self.forward, self.backward, self.road_of, self.is_back)
         for column in own:
             column.flags.writeable = False
         lines = self.lines.places, self.lines.firsts, *self.ways[:2]
         self.origin = Origin(digest_of(*own, *lines), digest_of(self.places))
 
-    def find_roads(self, tails: Integers, heads: Integers, bends: Mapping[int, Sequence[Point]]) -> None:
-        """Finds the roads by the crossings at both ends of arcs: first those without bends, then the others."""
+    def find_roads(
+        self, tails: Integers, heads: Integers, bends: Mapping[int, Sequence[Point]],
+    ) -> None:
+        """Finds the roads by the crossings at both ends of arcs, those without bends first."""
         bent = {arc: points for arc, points in bends.items() if arc < len(tails)}
         firsts, lasts = self.straight(tails, heads, list(bent))
         more = self.bent(tails, heads, bent, len(firsts))
-        self.firsts, self.lasts = (numpy.concatenate(pair) for pair in zip((firsts, lasts), more[:2]))
-        counts = numpy.concatenate([numpy.full(len(firsts), 2), more[2]])
-        places = numpy.empty((counts.sum(), 2))
-        at = numpy.cumsum(counts) - counts
-        places[at], places[at + counts - 1] = self.places[self.firsts - 1], self.places[self.lasts - 1]
+        self.firsts, self.lasts = numpy.append(firsts, more[0]), numpy.append(lasts, more[1])
+        counts = numpy.append(numpy.full(len(firsts), 2), more[2])
+        places, at = numpy.empty((counts.sum(), 2)), numpy.cumsum(counts) - counts
+        places[at] = self.places[self.firsts - 1]
+        places[at + counts - 1] = self.places[self.lasts - 1]
         places[ranges(at + 1, counts - 2)] = more[3]
         self.lines = Lines(counts, places)
 
-    def straight(self, tails: Integers, heads: Integers, bent: list[int]) -> tuple[Integers, Integers]:
+    def straight(
+        self, tails: Integers, heads: Integers, bent: list[int],
+    ) -> tuple[Integers, Integers]:
         """The ends of roads of arcs without bends, each pair of crossings once."""
         kept = tails != heads
         kept[bent] = False
@@ -235,24 +234,26 @@ class Roads:
     def bent(
         self, tails: Integers, heads: Integers, bends: Mapping[int, Sequence[Point]], before: int,
     ) -> tuple[Integers, Integers, Integers, Floats]:
-        """The roads of arcs with bends: their ends, how many places each has, and all bends. Arcs with the same bends in opposite directions share a
-        road."""
+        """The roads of arcs with bends, shared by opposite ones: ends, counts, and bends."""
         roads: dict[tuple[Any, ...], int] = {}
-        for arc, points in bends.items():
-            tail, head, points, back = int(tails[arc]), int(heads[arc]), list(points), list(points)[::-1]
+        for arc, given in bends.items():
+            tail, head, points, back = int(tails[arc]), int(heads[arc]), [*given], [*given][::-1]
             is_back = tail > head or tail == head and points > back
             key = (head, tail, *back) if is_back else (tail, head, *points)
-            self.road_of[arc], self.is_back[arc] = roads.setdefault(key, before + len(roads)), is_back
+            self.road_of[arc] = roads.setdefault(key, before + len(roads))
+            self.is_back[arc] = is_back
         ends = numpy.array([key[:2] for key in roads], numpy.int64).reshape(-1, 2)
         counts = numpy.array([len(key) for key in roads], numpy.int64)
-        return ends[:, 0], ends[:, 1], counts, numpy.array([point for key in roads for point in key[2:]], numpy.float64).reshape(-1, 2)
+        places = numpy.array([point for key in roads for point in key[2:]], numpy.float64)
+        return ends[:, 0], ends[:, 1], counts, places.reshape(-1, 2)
 
     def find_ways(self) -> None:
-        """Finds the nodes where trips leave each road and arrive, and the least weights of both directions."""
+        """Finds the nodes where trips leave roads and arrive, and the least weights both ways."""
         kept = self.road_of != NONE
         roads, is_back, weights = self.road_of[kept], self.is_back[kept], self.weights[kept]
         out = ways_of(roads, (~is_back).astype(int), self.heads[kept], weights, len(self))
-        self.ways = both_ways(out, ways_of(roads, is_back.astype(int), self.tails[kept], weights, len(self)))
+        into = ways_of(roads, is_back.astype(int), self.tails[kept], weights, len(self))
+        self.ways = both_ways(out, into)
         self.is_last = self.ways.is_last.tolist()
         least = numpy.full((2, len(self)), numpy.iinfo(numpy.int64).max)
         numpy.minimum.at(least, (is_back.astype(int), roads), weights)
@@ -266,14 +267,16 @@ class Roads:
     def nanometres(self) -> NDArray[numpy.uint64]:
         """The length of the road of each arc in whole nanometres, 0 for an arc along no road."""
         if self.lengths is None:
-            metres = numpy.where(self.road_of == NONE, 0, self.lines.metres[self.road_of] if len(self) else 0)
+            metres = numpy.append(self.lines.metres, 0.0)[self.road_of]
             self.lengths = numpy.round(metres / NANOMETRE).astype(numpy.uint64)
         return self.lengths
 
     # From places to roads.
 
-    def find(self, longitudes: Column, latitudes: Column, max_metres: float | None = 1_000.0) -> Spots:
-        """Takes places to roads. Raises a `TooFar` with the places that are farther than `max_metres` from each road."""
+    def find(
+        self, longitudes: Column, latitudes: Column, max_metres: float | None = 1_000.0,
+    ) -> Spots:
+        """Takes places to roads; those farther than `max_metres` from each are refused."""
         most = metres_in(max_metres)
         longitudes, latitudes = places_in(longitudes, latitudes)
         spots = self.find_any(longitudes, latitudes)
@@ -281,107 +284,101 @@ class Roads:
         return replace(spots, origin=self.origin._replace(max_metres=most))
 
     def own(self, name: str, spots: Any) -> Spots:
-        """Spots of this network. Those of another network whose nodes have the same places, such as a scenario, are found anew here: they may be on
-        another road, if theirs is closed.
-
-        Raises
-        ------
-        TypeError
-            These are no spots.
-        DataFault
-            They are of another network, or may use their roads in one direction alone.
-        TooFar
-            Each road is now farther from a place than it may be.
-        """
+        """Spots of this network; those of another one with nodes at the same places, as a scenario
+        has them, are found anew. Others are refused, and so are those on roads in one direction."""
         if not isinstance(spots, Spots):
             raise TypeError(f"{name} are Spots, as `snap` gives them, not {quoted(spots)}")
         if spots.origin.roads == self.origin.roads:
             return spots
         if spots.origin.nodes != self.origin.nodes or not (spots.sides == FORWARD | BACKWARD).all():
-            raise DataFault(f"{name} are spots of another network: `snap` of this one gives its own", name)
+            text = "are spots of another network: `snap` of this one gives its own"
+            raise DataFault(f"{name} {text}", name)
         longitudes, latitudes = spots.places.T
         return self.find(longitudes, latitudes, spots.origin.max_metres)
 
     def find_any(self, longitudes: Column, latitudes: Column) -> Spots:
         """Does the same for places at any distance from roads."""
-        if not len(self):
-            raise ChtabError("the graph has no road between two places")
+        self.see_that_some()
         x, y = numpy.asarray(longitudes, float), numpy.asarray(latitudes, float)
         if 0 < len(x) <= FEW:
             return self.few_spots(x.tolist(), y.tolist(), self.lines.nearest_few(x, y))
         return self.spots_at(x, y, *self.lines.nearest(x, y))
 
-    def few_spots(self, longitudes: Sequence[float], latitudes: Sequence[float], found: Sequence[OnLine]) -> Spots:
+    def few_spots(
+        self, longitudes: Sequence[float], latitudes: Sequence[float], found: Sequence[OnLine],
+    ) -> Spots:
         """The spots of a few places at these points of roads, as `spots_at` makes them of many."""
-        few, outs = self.few_on(longitudes, latitudes, found), self.ways.outs
-        nodes, weights = numpy.array([each.nodes for each in few]), numpy.array([each.weights for each in few])
+        few = self.few_on(longitudes, latitudes, found)
+        nodes, weights = (numpy.array(column) for column in list(zip(*few))[6:8])
         x, y, metres, roads, parts = (numpy.array(column) for column in list(zip(*few))[:5])
-        sides, places = numpy.full(len(few), FORWARD | BACKWARD), numpy.column_stack([longitudes, latitudes])
-        return Spots(
-            x, y, metres, roads, parts, nodes[:, :outs], weights[:, :outs], nodes[:, outs:], weights[:, outs:], sides, places,
-            self.origin,
-        )
+        places = numpy.column_stack([longitudes, latitudes])
+        return self.spots_by(x, y, metres, roads, parts, nodes, weights, places)
 
     def few(self, longitudes: Sequence[float], latitudes: Sequence[float]) -> list[Few]:
         """The spots of a few places, one by one."""
-        if not len(self):
-            raise ChtabError("the graph has no road between two places")
-        return self.few_on(longitudes, latitudes, self.lines.nearest_few(numpy.array(longitudes), numpy.array(latitudes)))
+        self.see_that_some()
+        found = self.lines.nearest_few(numpy.array(longitudes), numpy.array(latitudes))
+        return self.few_on(longitudes, latitudes, found)
 
-    def few_on(self, longitudes: Sequence[float], latitudes: Sequence[float], found: Sequence[OnLine]) -> list[Few]:
+    def few_on(
+        self, longitudes: Sequence[float], latitudes: Sequence[float], found: Sequence[OnLine],
+    ) -> list[Few]:
         """The same at these points of roads."""
         roads, ways, few = [each.line for each in found], self.ways, []
         lengths = self.lines.metres.take(roads).tolist()
-        all_nodes, all_weights = ways.nodes.take(roads, axis=0).tolist(), ways.weights.take(roads, axis=0).tolist()
-        for place, (nodes, weights) in enumerate(zip(all_nodes, all_weights)):
+        columns = (column.take(roads, axis=0).tolist() for column in (ways.nodes, ways.weights))
+        for place, (nodes, weights) in enumerate(zip(*columns)):
             (road, part, x, y), length = found[place], lengths[place]
             metres = sphere.metres_from(longitudes[place], latitudes[place], x, y)
             before, behind = part * length, (1 - part) * length
-            part = 0.0 if before < AT_END and before <= behind else 1.0 if behind < AT_END and behind < before else part
+            if min(before, behind) < AT_END:
+                part = 0.0 if before <= behind else 1.0
             if part in (0.0, 1.0):
                 self.stay_at_node(nodes, weights, road, part == 0)
             else:
                 shares = (1 - part if is_last else part for is_last in self.is_last)
-                weights = [NONE if node == NONE else round(share * weight) for node, weight, share in zip(nodes, weights, shares)]
+                along = [round(share * weight) for share, weight in zip(shares, weights)]
+                weights = [NONE if node == NONE else own for node, own in zip(nodes, along)]
             few.append(Few(x, y, metres, road, part, length, nodes, weights, ways.outs))
         return few
 
     def stay_at_node(self, nodes: list[int], weights: list[int], road: int, is_first: bool) -> None:
         """Gives a spot at an end of its road this node alone, at the weight 0."""
-        begin, outs, width = int((self.firsts if is_first else self.lasts)[road]), self.ways.outs, len(nodes)
-        nodes[:] = weights[:] = [NONE] * width
-        for column, node in (0 if is_first else outs // 2, begin), (outs + (0 if is_first else (width - outs) // 2), self.ends.get(begin, begin)):
-            nodes[column], weights[column] = node, 0
+        begin, outs = int((self.firsts if is_first else self.lasts)[road]), self.ways.outs
+        ins = len(nodes) - outs
+        nodes[:] = weights[:] = [NONE] * len(nodes)
+        out, into = (0, outs) if is_first else (outs // 2, outs + ins // 2)
+        nodes[out], nodes[into] = begin, self.ends.get(begin, begin)
+        weights[out] = weights[into] = 0
 
     def at_nodes(self, starts: Integers, ends: Integers, side: int) -> Spots:
-        """Spots at nodes, where trips start at the ones and end at the others. They are on no road, and by their side, 0 or 1, on none together."""
+        """Spots at nodes where trips start and end; they are on no road, alone or together."""
         count = len(starts)
         nothing, numbers = numpy.zeros((count, 1), numpy.int64), -2 - 2 * numpy.arange(count) - side
         places, sides = self.places[starts - 1], numpy.full(count, FORWARD | BACKWARD)
         x, y = places.T.copy()
         return Spots(
-            x, y, numpy.zeros(count), numbers, numpy.zeros(count), starts[:, None], nothing, ends[:, None], nothing.copy(), sides, places, self.origin,
-        )
+            x, y, numpy.zeros(count), numbers, numpy.zeros(count), starts[:, None], nothing,
+            ends[:, None], nothing.copy(), sides, places, self.origin)
 
-    def find_some(self, longitude: float, latitude: float, most: int) -> Spots:
-        """Takes one place to each of its nearest roads, at most `most` of them, the nearest first."""
-        if not len(self):
-            raise ChtabError("the graph has no road between two places")
-        found = self.lines.nearest_some(longitude, latitude, most)
-        return self.spots_at(numpy.full(len(found[0]), longitude), numpy.full(len(found[0]), latitude), *found)
-
-    def spots_at(self, longitudes: Column, latitudes: Column, roads: Integers, parts: Floats, xs: Floats, ys: Floats) -> Spots:
+    def spots_at(
+        self, longitudes: Column, latitudes: Column, roads: Integers, parts: Floats, xs: Floats,
+        ys: Floats,
+    ) -> Spots:
         """The spots of places at these parts of roads."""
         lengths = self.lines.metres[roads]
         # On a road of less than two metres the nearer end counts.
         before, behind = parts * lengths, (1 - parts) * lengths
-        parts = numpy.where((before < AT_END) & (before <= behind), 0.0, numpy.where((behind < AT_END) & (behind < before), 1.0, parts))
+        nearer_end = numpy.where(before <= behind, 0.0, 1.0)
+        parts = numpy.where(numpy.minimum(before, behind) < AT_END, nearer_end, parts)
         return self.spots(numpy.column_stack([longitudes, latitudes]), xs, ys, roads, parts)
 
-    def spots(self, places: Floats, longitudes: Floats, latitudes: Floats, roads: Integers, parts: Floats) -> Spots:
-        """Makes the spots of places, with the ways out of them and into them, and rounds the weights of these."""
+    def spots(
+        self, places: Floats, longitudes: Floats, latitudes: Floats, roads: Integers, parts: Floats,
+    ) -> Spots:
+        """Makes the spots of places with their ways out and in, whose weights are rounded."""
         metres = metres_between(places[:, 0], places[:, 1], longitudes, latitudes)
-        ways, outs = self.ways, self.ways.outs
+        ways = self.ways
         nodes, weights = ways.nodes.take(roads, axis=0), ways.weights.take(roads, axis=0)
         column = parts[:, None]
         along = numpy.where(ways.is_last, 1 - column, column)
@@ -389,13 +386,26 @@ class Roads:
         at_node = numpy.flatnonzero((parts == 0) | (parts == 1))
         if len(at_node):
             self.stay_at_nodes(nodes, weights, at_node, roads[at_node], parts[at_node] == 0)
-        sides = numpy.full(len(roads), FORWARD | BACKWARD)
-        return Spots(
-            longitudes, latitudes, metres, roads, parts, nodes[:, :outs], weights[:, :outs], nodes[:, outs:], weights[:, outs:], sides, places,
-            self.origin,
-        )
+        return self.spots_by(longitudes, latitudes, metres, roads, parts, nodes, weights, places)
 
-    def stay_at_nodes(self, nodes: Integers, weights: Integers, at_node: Integers, roads: Integers, is_first: Marks) -> None:
+    def spots_by(
+        self, x: Floats, y: Floats, metres: Floats, roads: Integers, parts: Floats,
+        nodes: Integers, weights: Integers, places: Floats,
+    ) -> Spots:
+        """Spots with the nodes out of roads and then those into them, and with their weights."""
+        outs, sides = self.ways.outs, numpy.full(len(roads), FORWARD | BACKWARD)
+        out, into = (nodes[:, :outs], weights[:, :outs]), (nodes[:, outs:], weights[:, outs:])
+        return Spots(x, y, metres, roads, parts, *out, *into, sides, places, self.origin)
+
+    def see_that_some(self) -> None:
+        """Refuses a graph without a road."""
+        if not len(self):
+            raise ChtabError("the graph has no road between two places")
+
+    def stay_at_nodes(
+        self, nodes: Integers, weights: Integers, at_node: Integers, roads: Integers,
+        is_first: Marks,
+    ) -> None:
         """Gives those of the spots that are at a node this node alone, at the weight 0."""
         begins, outs = numpy.where(is_first, self.firsts[roads], self.lasts[roads]), self.ways.outs
         stops = numpy.array([self.ends.get(node, node) for node in begins.tolist()], numpy.int64)
@@ -404,58 +414,36 @@ class Roads:
             column = first + numpy.where(is_first, 0, width // 2)
             nodes[at_node, column], weights[at_node, column] = there, 0
 
-    def find_facing(self, longitude: float, latitude: float, bearing: float, within: float, but: Sequence[int] = ()) -> Spots:
-        """Takes one place to the nearest point at which a road leads in a direction, in degrees clockwise from north, or at most `within` degrees off
-        it, on any road but some. Trips leave the spot and arrive at it in that direction alone. If no road leads that way, there are no spots."""
-        def fits(steps: Integers) -> Marks:
-            found = self.facing(steps, bearing, within) > 0
-            return found & ~numpy.isin(numpy.searchsorted(self.lines.firsts, steps, "right") - 1, but) if but else found
-
-        steps, share, at = self.lines.nearest_facing(longitude, latitude, fits)
-        roads = numpy.searchsorted(self.lines.firsts, steps, "right") - 1
-        before, after = self.lines.parts[steps], self.lines.parts[steps + 1]
-        # A spot at an end of its road would be left by any other road.
-        parts = (before + share * (after - before)).clip(INSIDE, 1 - INSIDE)
-        places = numpy.column_stack([numpy.full(len(steps), longitude), numpy.full(len(steps), latitude)])
-        return one_sided(self.spots(places, *at, roads, parts), self.facing(steps, bearing, within))
-
-    def facing(self, steps: Integers, bearing: float, within: float) -> Integers:
-        """For each step of a line, the open directions along its road that lead in a direction."""
-        leads = self.lines.bearings(steps)
-        roads = numpy.searchsorted(self.lines.firsts, steps, "right") - 1
-        found = numpy.zeros(len(steps), numpy.int64)
-        for side, off, weights in (FORWARD, 0, self.forward), (BACKWARD, 180, self.backward):
-            is_near = abs((leads + off - bearing + 180) % 360 - 180) <= within
-            found |= numpy.where(is_near & (weights[roads] != NONE), side, 0)
-        return found
-
     def along(self, starts: Spots, ends: Spots) -> Integers:
-        """The weights from spots to others along the road that both are on, `NONE` if they aren't on one, or if no arc leads that way."""
+        """The weights along the road that both spots are on, `NONE` if there is no such way."""
         found = numpy.full(len(starts), NONE)
         [same] = (starts.roads == ends.roads).nonzero()
         found[same] = self.along_roads(starts, same, ends, same)
         return found
 
-    def along_roads(self, starts: Spots, rows: Integers, ends: Spots, columns: Integers) -> Integers:
-        """The same from some spots of one list to as many of another, each pair of which is on one road."""
+    def along_roads(
+        self, starts: Spots, rows: Integers, ends: Spots, columns: Integers,
+    ) -> Integers:
+        """The same from some spots of one list to as many of another, both on one road."""
         roads, parts = starts.roads[rows], ends.parts[columns] - starts.parts[rows]
         is_forward = parts >= 0
         weights = numpy.where(is_forward, self.forward[roads], self.backward[roads])
         may = starts.sides[rows] & ends.sides[columns] & numpy.where(is_forward, FORWARD, BACKWARD)
         is_there = (weights != NONE) & (may > 0) | (parts == 0)
-        return numpy.where(is_there, numpy.rint(abs(parts) * numpy.maximum(weights, 0)), NONE).astype(numpy.int64)
+        along = numpy.rint(abs(parts) * numpy.maximum(weights, 0))
+        return numpy.where(is_there, along, NONE).astype(numpy.int64)
 
     # Spots and arcs on roads.
 
     def same_points(self, spots: Spots) -> tuple[Spots, Marks]:
-        """Spots of this network at the same points of roads as others, and which of them there are. A spot of another network has none, and in a
-        scenario a spot has none if its road is closed there."""
+        """Spots of this network at the points of others, and which of these are on a road here."""
         if spots.origin.roads == self.origin.roads:
             return spots, numpy.ones(len(spots), bool)
         if spots.origin.nodes != self.origin.nodes or not len(self):
             return spots, numpy.zeros(len(spots), bool)
         found = replace(self.find_any(*spots.places.T), sides=spots.sides)
-        return found, metres_between(found.longitudes, found.latitudes, spots.longitudes, spots.latitudes) <= SAME
+        points = found.longitudes, found.latitudes, spots.longitudes, spots.latitudes
+        return found, metres_between(*points) <= SAME
 
     def sides_of(self, arcs: Integers) -> Integers:
         """The directions in which arcs lead along their roads, `FORWARD` or `BACKWARD`."""
@@ -468,8 +456,7 @@ class Roads:
         return self.lines.stretch(road, start, end)
 
     def lines_of(self, starts: Integers, counts: Integers, arcs: Integers) -> list[Floats]:
-        """The places along some routes, in degrees: a list of (n, 2). Route k begins at the node `starts[k]` and has `counts[k]` of the arcs. Places may
-        be repeated."""
+        """The places along routes (n, 2), perhaps repeated: route k has `counts[k]` of the arcs."""
         is_along, cuts = self.road_of[arcs] != NONE, numpy.append(0, numpy.cumsum(counts))
         roads, sizes = self.road_of[arcs[is_along]], numpy.zeros(len(arcs) + 1, numpy.int64)
         places = self.lines.joined(roads, self.is_back[arcs[is_along]])
@@ -477,21 +464,20 @@ class Roads:
         firsts, stops = numpy.cumsum(sizes)[cuts], starts.copy()
         stops[counts > 0] = self.heads[arcs[cuts[1:][counts > 0] - 1]]
         begins, ends = self.places[starts - 1], self.places[stops - 1]
-        return [
-            numpy.concatenate([begins[each:each + 1], places[firsts[each]:firsts[each + 1]], ends[each:each + 1]]) for each in range(len(starts))
-        ]
+        parts = (places[first:last] for first, last in zip(firsts, firsts[1:]))
+        return [numpy.vstack(each) for each in zip(begins, parts, ends)]
 
     def segments(self) -> tuple[Integers, Floats, Floats]:
-        """The straight pieces of all arcs along roads: their arcs, both ends in degrees (n, 4), and the parts of the arc at both ends (n, 2)."""
+        """The straight pieces of arcs along roads: arcs, ends (n, 4), parts of these (n, 2)."""
         if self.pieces is None:
             arcs = numpy.flatnonzero(self.road_of != NONE)
             roads, lines = self.road_of[arcs], self.lines
             counts = lines.firsts[roads + 1] - lines.firsts[roads] - 1
             steps = ranges(lines.firsts[roads], counts)
             is_back = numpy.repeat(self.is_back[arcs], counts)[:, None]
-            low, high = steps, steps + 1
-            ends = numpy.hstack([lines.places[low], lines.places[high]])
-            parts = numpy.column_stack([lines.parts[low], lines.parts[high]])
-            ends, parts = numpy.where(is_back, ends[:, [2, 3, 0, 1]], ends), numpy.where(is_back, 1 - parts[:, ::-1], parts)
+            ends = numpy.hstack([lines.places[steps], lines.places[steps + 1]])
+            parts = numpy.column_stack([lines.parts[steps], lines.parts[steps + 1]])
+            ends = numpy.where(is_back, ends[:, [2, 3, 0, 1]], ends)
+            parts = numpy.where(is_back, 1 - parts[:, ::-1], parts)
             self.pieces = numpy.repeat(arcs, counts), ends, parts
         return self.pieces

@@ -1,4 +1,5 @@
-"""Lengths on the earth, taken as a sphere with a radius of 6,371,008.8 metres, as in the converter of maps."""
+"""Lengths on the earth, taken as a sphere with a radius of 6,371,008.8 metres, as in the converter
+of maps."""
 from __future__ import annotations
 
 import math
@@ -21,13 +22,14 @@ def points(longitudes: ArrayLike, latitudes: ArrayLike) -> Floats:
     """The points of the sphere of radius 1, a row for each place."""
     import numpy
 
-    x, y = (numpy.radians(numpy.asarray(part, float)).reshape(-1) for part in (longitudes, latitudes))
+    x, y = (
+        numpy.radians(numpy.asarray(part, float)).reshape(-1) for part in (longitudes, latitudes))
     flat = numpy.cos(y)
     return numpy.array([flat * numpy.cos(x), flat * numpy.sin(x), numpy.sin(y)]).T
 
 
 def metres(chord: float) -> float:
-    """The metres along the earth between two points whose straight distance on a sphere of radius 1 is `chord`."""
+    """The metres along the earth of a straight distance on a sphere of radius 1."""
     return 2 * RADIUS * math.asin(min(1.0, chord / 2))
 
 

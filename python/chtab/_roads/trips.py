@@ -11,7 +11,7 @@ import numpy
 from chtab._engine.walks import NO_WALK
 from chtab._near import blocks
 from chtab._near.question import NearQuestion
-from chtab._roads.legs import FAR, legs_between, table_ways, totals, ways_between
+from chtab._roads.legs import FAR, best_ways, legs_between, table_ways
 from chtab._roads.routes import Trip
 from chtab._roads.snapping import Spots
 
@@ -27,15 +27,7 @@ BATCH = 256
 
 
 class Trips:
-    """Trips on one network.
-
-    Parameters
-    ----------
-    engine : InProcess
-        What answers questions between nodes.
-    layers : Layers
-        The files of the network: its roads, and the labels of its nodes.
-    """
+    """Trips on one network: `engine` answers between nodes, `layers` has its roads and labels."""
 
     def __init__(self, engine: InProcess, layers: Layers) -> None:
         self.engine, self.layers = engine, layers
@@ -59,12 +51,7 @@ class Trips:
 
     def weights(self, starts: Spots, ends: Spots) -> Integers:
         """The answer of `Network.trips`."""
-        pairs, added = ways_between(starts, ends)
-        is_there = (pairs > 0).all(axis=2)
-        between = self.engine.distances(pairs[is_there])
-        best = totals(added, is_there, between, self.roads.along(starts, ends)).min(
-            axis=1, initial=FAR
-        )
+        best, _ = best_ways(self, starts, ends)
         return numpy.where(best < FAR, best, NO_WALK)
 
     def table(self, starts: Spots, ends: Spots, within: int | None = None) -> Integers:
@@ -88,12 +75,8 @@ class Trips:
         places, firsts = list(map(tuple, traces.places.tolist())), traces.firsts.tolist()
         trips = [Trip(None, None, None, []) for _ in range(len(found))]
         for leg, first, last in zip(there, firsts, firsts[1:]):
-            trips[leg] = Trip(
-                int(found.weights[leg]),
-                float(found.metres[leg]),
-                places[first:last],
-                listed(found.nodes(leg)),
-            )
+            weight, metres = int(found.weights[leg]), float(found.metres[leg])
+            trips[leg] = Trip(weight, metres, places[first:last], listed(found.nodes(leg)))
         return trips
 
     def reach(self, spot: Spots, within: int | None = None) -> Integers:
@@ -106,26 +89,21 @@ class Trips:
         return numpy.where(found <= limit, found, NO_WALK)
 
     def from_nodes(self, nodes: Integers, added: Integers, within: int | None) -> Integers:
-        """The least weights at which all nodes are reached over some nodes, each with an added
-        weight; `FAR` if a node is not reached."""
+        """The least weights at which nodes are reached over some; `FAR` for unreached ones."""
         found = numpy.full(len(self.roads.places), FAR)
         own = None if within is None else within - int(added.min(initial=0))
         if not len(nodes) or own is not None and own < 0:
             return found
-        for start, rows in blocks.rows_by(
-            self.engine, NearQuestion(None, nodes, within=own, is_from=True)
-        ):
-            owners = start + rows.owners()
-            for place, more in enumerate(added.tolist()):
-                is_its = rows.places == place
-                found[owners[is_its]] = numpy.minimum(
-                    found[owners[is_its]], rows.weights[is_its] + more
-                )
+        question = NearQuestion(None, nodes, within=own, is_from=True)
+        for start, rows in blocks.rows_by(self.engine, question):
+            owners = numpy.flatnonzero(rows.counts())
+            if len(owners):
+                weights = rows.weights + added[rows.places]
+                found[start + owners] = numpy.minimum.reduceat(weights, rows.offsets[owners])
         return found
 
     def isochrones(self, spot: Spots, limits: Sequence[int]) -> list[Any]:
-        """The answer of `Network.isochrones`: polygons for limits in the unit of the graph, in
-        descending order."""
+        """The polygons of `Network.isochrones` for limits of the graph in descending order."""
         from chtab._roads import reach
 
         return reach.polygons(self.roads, spot, self.reach(spot, limits[0]), limits)
@@ -145,10 +123,8 @@ def limits_in(measure: Measure, limits: Any) -> list[tuple[int, float]]:
 def see_that_one(spot: Spots) -> None:
     """Refuses anything but a single spot."""
     if not isinstance(spot, Spots):
-        raise TypeError(
-            f"reach starts at a spot, as `snap` gives one, not at {type(spot).__name__}"
-        )
+        text = "reach starts at a spot, as `snap` gives one, not at"
+        raise TypeError(f"{text} {type(spot).__name__}")
     if len(spot) != 1:
-        raise ValueError(
-            f"reach starts at one spot, not at {len(spot)}: take one of them, as spots[:1]"
-        )
+        text = f"reach starts at one spot, not at {len(spot)}"
+        raise ValueError(f"{text}: take one of them, as spots[:1]")

@@ -11,7 +11,9 @@ from chtab_maps import profiles
 from chtab._roads.legs import FAR, legs_between, legs_by, metres_by, table_ways
 from chtab._roads.lines import metres_between
 from chtab._roads.snapping import length_text
-from chtab_server.osrm import alternatives, cells, curb, lone, matching, options, telling, tours, url
+from chtab_server.osrm import (
+    alternatives, cells, curb, lone, matching, nearby, options, telling, tours, url,
+)
 from chtab_server.osrm.crossings import Crossings
 from chtab_server.osrm.drawing import Drawing
 from chtab_server.osrm.options import Refusal
@@ -317,7 +319,7 @@ class Answers:
             if not len(spots):
                 raise Refusal("NoSegment", "no road leads in the direction of coordinate 0")
         else:
-            spots = self.network.roads.find_some(longitude, latitude, question.own)
+            spots = nearby.find_some(self.network.roads, longitude, latitude, question.own)
         see_that_near(spots[:1], question.general.radiuses)
         spots = spots[numpy.argsort(spots.metres, kind="stable")]
         spots = spots[spots.metres <= question.general.radiuses[0]]
@@ -403,7 +405,7 @@ def facing_spots(roads: Roads, spots: Spots, question: Question, first: int) -> 
     none. The spots of the question begin at `first`."""
     found, facing = [], [(index, bearing) for index, bearing in enumerate(question.general.bearings) if bearing]
     for index, bearing in facing:
-        one = roads.find_facing(*question.coordinates[index], *bearing)
+        one = nearby.find_facing(roads, *question.coordinates[index], *bearing)
         if not len(one):
             return spots, Refusal("NoSegment", f"no road leads in the direction of coordinate {index}")
         found.append(one)

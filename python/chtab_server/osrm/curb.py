@@ -7,7 +7,8 @@ from typing import TYPE_CHECKING
 import numpy
 
 from chtab._roads.lines import mercator
-from chtab._roads.snapping import BACKWARD, FORWARD, INSIDE, NONE, one_sided
+from chtab._roads.snapping import BACKWARD, FORWARD, NONE
+from chtab_server.osrm.nearby import INSIDE, one_sided
 
 if TYPE_CHECKING:
     from chtab._roads.snapping import Roads, Spots

@@ -13,6 +13,7 @@ import numpy
 from chtab._roads.legs import legs_between
 from chtab._roads.lines import metres_between
 from chtab._roads.snapping import Spots
+from chtab_server.osrm import nearby
 
 if TYPE_CHECKING:
     from chtab._roads.snapping import Roads
@@ -104,7 +105,7 @@ class Model:
     def near(self, place: int) -> Spots:
         (x, y), roads = self.track.places[place], self.trips.roads
         bearing = self.track.bearings[place] if self.track.bearings else None
-        found = roads.find_some(x, y, MOST_ROADS) if bearing is None else facing(roads, x, y, MOST_ROADS, bearing)
+        found = nearby.find_some(roads, x, y, MOST_ROADS) if bearing is None else facing(roads, x, y, MOST_ROADS, bearing)
         return found[found.metres <= TIMES * self.spreads[place]]
 
     def emission(self, place: int) -> Floats:
@@ -203,7 +204,7 @@ def facing(roads: Roads, longitude: float, latitude: float, most: int, bearing: 
     """The spots of a place on its nearest roads that lead in a direction, at most `most` of them, the nearest first."""
     found: list[Spots] = []
     while len(found) < most:
-        one = roads.find_facing(longitude, latitude, *bearing, [int(each.roads[0]) for each in found])
+        one = nearby.find_facing(roads, longitude, latitude, *bearing, [int(each.roads[0]) for each in found])
         if not len(one):
             break
         found.append(one)

@@ -17,7 +17,7 @@ from typing import IO, TYPE_CHECKING, Any, NamedTuple
 import numpy
 
 from chtab.errors import FileFault
-from chtab._files.forms import whole
+from chtab.files import whole
 
 if TYPE_CHECKING:
     from numpy.typing import NDArray

@@ -23,23 +23,28 @@ import json
 import sys
 from collections.abc import Sequence
 
-from chtab import cli, files
+import chtab_tools as cli
+from chtab import files
 
 
 def limits_of(word: str) -> list[int]:
     """Whole numbers above 0 with commas between them."""
     parts = word.split(",")
     if not all(part.isdecimal() and 0 < int(part) <= 2**60 for part in parts):
-        raise argparse.ArgumentTypeError(f"{word!r} is no list of whole numbers from 1 to 2^60 with commas between them")
+        raise argparse.ArgumentTypeError(
+            f"{word!r} is no list of whole numbers from 1 to 2^60 with commas between them")
     return [int(part) for part in parts]
 
 
 def words_of(arguments: Sequence[str]) -> argparse.Namespace:
     """Reads the arguments. Invalid ones end the process with status 2."""
     parser = cli.parser_of("reach", __doc__)
-    parser.add_argument("--limits", type=limits_of, required=True, metavar="R,R..", help="limits in the graph's unit, from 1 to 2^60")
+    parser.add_argument(
+        "--limits", type=limits_of, required=True, metavar="R,R..",
+        help="limits in the graph's unit, from 1 to 2^60")
     cli.add_network(parser)
-    parser.add_argument("place", metavar="PLACE", nargs="?", help="the file with the place (standard input)")
+    parser.add_argument(
+        "place", metavar="PLACE", nargs="?", help="the file with the place (standard input)")
     return parser.parse_intermixed_args(arguments)
 
 

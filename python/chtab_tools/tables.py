@@ -86,8 +86,7 @@ def on_threads(
         engine.load()
         with concurrent.futures.ThreadPoolExecutor(choices.threads) as threads:
             begun = {
-                threads.submit(cells_of, engine, each, choices.within): each for each in blocks
-            }
+                threads.submit(cells_of, engine, each, choices.within): each for each in blocks}
             try:
                 for future in concurrent.futures.as_completed(list(begun)):
                     yield begun.pop(future), future.result()
@@ -130,8 +129,7 @@ def on_cluster(
 
 
 def make(setting: Setting, sources: Any, targets: Any, out: Path, choices: Choices) -> int:
-    """Writes the table of these nodes to OUT (.csv or .npy), which appears once it is complete.
-    Returns the number of its blocks."""
+    """Writes the table of these nodes to OUT (.csv or .npy); the number of its blocks."""
     out = pathlib.Path(out)
     if out.suffix not in (".csv", ".npy"):
         raise Failed("OUT has to end in .csv or .npy")
@@ -156,10 +154,7 @@ def make(setting: Setting, sources: Any, targets: Any, out: Path, choices: Choic
 
 
 def fill(
-    made: NDArray[numpy.int64],
-    call: Any,
-    setting: Setting,
-    blocks: Sequence[Block],
+    made: NDArray[numpy.int64], call: Any, setting: Setting, blocks: Sequence[Block],
     choices: Choices,
 ) -> None:
     """Puts the cells of all blocks into a table."""

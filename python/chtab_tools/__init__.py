@@ -1,7 +1,8 @@
 """The commands of `tools/`, each in a module of its own with `main(words)`, and how a command ends.
 
-A fault is one line on standard error and status 1. Ctrl-C, SIGTERM and a closed pipe end a command as they end any other, by the signal and without a
-message. Before that, the command ends its children and removes incomplete files.
+A fault is one line on standard error and status 1. Ctrl-C, SIGTERM and a closed pipe end a command
+as they end any other, by the signal and without a message. Before that, the command ends its
+children and removes incomplete files.
 """
 from __future__ import annotations
 
@@ -22,8 +23,9 @@ if TYPE_CHECKING:
 
 # The names of the commands: those of the modules in this folder, of the maps and of the service.
 NAMES = "blocks", "nearest", "osm_to_gr", "page", "picture", "reach", "to_geojson", "trips"
-SAVED = "read the hierarchy of the graph from FILE, as `chtab save` writes it, and check it; that of another graph is refused, often by " \
-    "`chtab: saved line 1: size too large`"
+SAVED = (
+    "read the hierarchy of the graph from FILE, as `chtab save` writes it, and check it; that of "
+    "another graph is refused, often by `chtab: saved line 1: size too large`")
 
 
 class Terminated(BaseException):
@@ -43,7 +45,9 @@ def end_by(number: int) -> None:
 
 def as_called(text: str) -> str:
     """A help text with the names that commands and documents have where they are installed."""
-    text = re.sub(rf"(?:tools/)?\b({'|'.join(NAMES)})\.py\b", lambda found: "chtab-" + found[1].replace("_", "-"), text)
+    text = re.sub(
+        rf"(?:tools/)?\b({'|'.join(NAMES)})\.py\b",
+        lambda found: "chtab-" + found[1].replace("_", "-"), text)
     return text.replace("./chtab ", "chtab ").replace("docs/", documents())
 
 
@@ -57,7 +61,8 @@ class Parser(argparse.ArgumentParser):
 
 
 class Formatter(argparse.RawDescriptionHelpFormatter):
-    """Formats help with the layout of its text, and with the headings of the program chtab, from which manual pages are made."""
+    """Formats help with the layout of its text, and with the headings of the program chtab, from
+    which manual pages are made."""
 
     def add_usage(self, usage: Any, actions: Any, groups: Any, prefix: str | None = None) -> None:
         """Adds the forms of the command line, below the heading Usage."""
@@ -67,8 +72,9 @@ class Formatter(argparse.RawDescriptionHelpFormatter):
 def parser_of(name: str, about: str | None) -> Parser:
     """The parser of a command.
 
-    Its help is made from a text: a line on what the command does, lines with the forms of the command line, and further paragraphs. It uses the name
-    that the command was called by: NAME.py in tools/, or chtab-NAME where it is installed, together with the documents.
+    Its help is made from a text: a line on what the command does, lines with the forms of the
+    command line, and further paragraphs. It uses the name that the command was called by: NAME.py
+    in tools/, or chtab-NAME where it is installed, together with the documents.
     """
     called = os.path.basename(sys.argv[0])
     if not called.startswith("chtab-"):
@@ -77,15 +83,16 @@ def parser_of(name: str, about: str | None) -> Parser:
     usage = "\n   or: ".join(form.strip() for form in forms.splitlines())
     examples = next((at for at, part in enumerate(rest) if part.startswith("Example:")), len(rest))
     parser = Parser(
-        called, usage=usage, description="\n\n".join([does, *rest[:examples]]), epilog="\n\n".join(rest[examples:]), formatter_class=Formatter
-    )
+        called, usage=usage, description="\n\n".join([does, *rest[:examples]]),
+        epilog="\n\n".join(rest[examples:]), formatter_class=Formatter)
     parser._positionals.title, parser._optionals.title = "Arguments", "Options"
     return parser
 
 
 def documents() -> str:
-    """The folder of the documents: the one that was installed along with the package, or the one of a checkout."""
-    package = os.path.dirname(os.path.dirname(os.path.realpath(__file__)))
+    """The folder of the documents: the one that was installed along with the package, or the one of
+    a checkout."""
+    package = os.path.dirname(os.path.realpath(__file__))
     folder = os.path.abspath(os.path.join(package, "../../../../share/doc/chtab/docs"))
     return f"{folder}/" if os.path.isdir(folder) else "docs/"
 
@@ -94,28 +101,33 @@ def add_network(parser: argparse.ArgumentParser) -> None:
     """Adds the arguments of a command that opens a network and takes places to its roads."""
     add_max_metres(parser, "road")
     add_runs(parser)
-    parser.add_argument("out", metavar="OUT", help="the network: OUT.gr, OUT.co and, if it exists, OUT.bends")
+    parser.add_argument(
+        "out", metavar="OUT", help="the network: OUT.gr, OUT.co and, if it exists, OUT.bends")
 
 
 def add_max_metres(parser: argparse.ArgumentParser, what: str) -> None:
     """Adds the option to refuse places that are too far from each road, or each node."""
     parser.add_argument(
-        "--max-metres", type=float, default=1_000, metavar="M", help=f"refuse a place that is more than M metres from each {what} (1,000)"
-    )
+        "--max-metres", type=float, default=1_000, metavar="M",
+        help=f"refuse a place that is more than M metres from each {what} (1,000)")
 
 
 def add_runs(parser: argparse.ArgumentParser) -> None:
     """Adds the options of a command that runs the program."""
     parser.add_argument("--saved", metavar="FILE", help=SAVED)
-    parser.add_argument("--workers", type=int, default=1, metavar="W", help="threads of the program, 1 to 64 (1)")
-    parser.add_argument("--program", metavar="FILE", help="the program chtab, if it is neither beside this command nor on the path")
+    parser.add_argument(
+        "--workers", type=int, default=1, metavar="W", help="threads of the program, 1 to 64 (1)")
+    parser.add_argument(
+        "--program", metavar="FILE",
+        help="the program chtab, if it is neither beside this command nor on the path")
 
 
 def open_network(words: argparse.Namespace) -> Network:
     """Opens the network of such arguments."""
     from chtab.network import Network
 
-    return Network.open(words.out + ".gr", words.saved, program=words.program, workers=words.workers, load=False)
+    return Network.open(
+        words.out + ".gr", words.saved, program=words.program, workers=words.workers, load=False)
 
 
 def ask_for(needs: Iterable[str]) -> None:
@@ -128,7 +140,8 @@ def ask_for(needs: Iterable[str]) -> None:
 
 
 def run(name: str, main: Callable[[Sequence[str]], object], needs: Iterable[str] = ()) -> None:
-    """Runs a command on its arguments, and ends the process if the command fails. `needs` are the modules without which it can only print help."""
+    """Runs a command on its arguments, and ends the process if the command fails. `needs` are the
+    modules without which it can only print help."""
     signal.signal(signal.SIGTERM, raise_terminated)
     words = sys.argv[1:]
     try:

@@ -16,23 +16,26 @@ Example:  ./chtab dist --routes roads.gr a.p2p | tools/to_geojson.py routes road
 from __future__ import annotations
 
 import argparse
+import json
 import sys
 from collections.abc import Mapping, Sequence
-from typing import IO, TYPE_CHECKING
+from typing import IO, TYPE_CHECKING, Any
 
-from chtab import cli, files
+import chtab_tools as cli
+from chtab import files
 from chtab._files import geojson
 
 if TYPE_CHECKING:
-    from chtab.typing import Path, Source
+    from chtab.typing import Geojson, Path, Point, Source
 
 
 def words_of(arguments: Sequence[str]) -> argparse.Namespace:
     """Reads the arguments. Invalid ones end the process with status 2."""
     parser = cli.parser_of("to_geojson", __doc__)
     parser.add_argument(
-        "--names", metavar="FILE", help="name nodes by a list or queries that nearest.py wrote, or by a file whose line k names node k, such as OUT.nodes"
-    )
+        "--names", metavar="FILE",
+        help="name nodes by a list or queries that nearest.py wrote, or by a file whose line k "
+             "names node k, such as OUT.nodes")
     parser.add_argument("kind", choices=("routes", "table"), help="what TEXT holds")
     parser.add_argument("file", metavar="FILE", help="OUT.co of routes, TARGETS.ss of a table")
     parser.add_argument("text", metavar="TEXT", nargs="?", help="the text (standard input)")
@@ -40,7 +43,8 @@ def words_of(arguments: Sequence[str]) -> argparse.Namespace:
 
 
 def write_table(path: Path, names: Mapping[int, str], text: Source, out: IO[str]) -> None:
-    """Writes a table as CSV. `path` names the list of its targets, `names` has the names of nodes."""
+    """Writes a table as CSV. `path` names the list of its targets, `names` has the names of
+    nodes."""
     def called(node: int) -> str | int:
         return names.get(node, node)
 
@@ -49,13 +53,32 @@ def write_table(path: Path, names: Mapping[int, str], text: Source, out: IO[str]
     files.write_csv(out, map(called, targets), rows)
 
 
+def route_feature(answer: files.Answer, line: Sequence[Point], names: Mapping[Any, str]) -> Geojson:
+    """A route of `files.read_routes` along a line of places, with names of its ends."""
+    ends, arcs = {"from": answer.source, "to": answer.target}, len(answer.nodes or ()) - 1
+    properties = {**ends, "weight": answer.weight, "arcs": arcs}
+    return geojson.feature(line, geojson.named(properties, answer, names))
+
+
+def write_routes(
+    source: Source, coordinates: files.Coordinates, names: Mapping[int, str], out: IO[str],
+) -> None:
+    """Writes the routes of a text, one feature in each line, one after the other."""
+    between = '{"type": "FeatureCollection", "features": [\n'
+    for answer in files.read_routes(source):
+        line = [coordinates.of(node) for node in answer.nodes or ()]
+        out.write(between + json.dumps(route_feature(answer, line, names), ensure_ascii=False))
+        between = ",\n"
+    out.write("\n]}\n" if between == ",\n" else between + "\n]}\n")
+
+
 def main(arguments: Sequence[str]) -> None:
     """Writes the text that the words name to standard output, as GeoJSON or CSV."""
     words = words_of(arguments)
     names = files.read_names(words.names) if words.names else {}
     text = words.text or sys.stdin
     if words.kind == "routes":
-        geojson.write_routes(text, files.read_coordinates(words.file), names, sys.stdout)
+        write_routes(text, files.read_coordinates(words.file), names, sys.stdout)
     else:
         write_table(words.file, names, text, sys.stdout)
 

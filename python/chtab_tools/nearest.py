@@ -22,7 +22,8 @@ import argparse
 import sys
 from collections.abc import Sequence
 
-from chtab import cli, files
+import chtab_tools as cli
+from chtab import files
 from chtab._engine.progress import Progress
 from chtab.errors import TooFar
 from chtab._roads import nearest
@@ -35,30 +36,43 @@ def words_of(arguments: Sequence[str]) -> argparse.Namespace:
     """Reads the arguments. Invalid ones end the process with status 2."""
     parser = cli.parser_of("nearest", __doc__)
     kinds = parser.add_mutually_exclusive_group()
-    kinds.add_argument("--queries", action="store_true", help="write queries: the first and second place make one, the third and fourth, and so on")
-    kinds.add_argument("--targets", action="store_true", help="write a list of targets: the nodes where trips end")
-    parser.add_argument("--all", action="store_true", help="write a list of all nodes in order, without PLACES")
-    parser.add_argument("--plain", action="store_true", help="search by a grid, as without scipy (Debian's package python3-scipy)")
+    kinds.add_argument(
+        "--queries", action="store_true",
+        help="write queries: the first and second place make one, the third and fourth, and so on")
+    kinds.add_argument(
+        "--targets", action="store_true", help="write a list of targets: the nodes where trips end")
+    parser.add_argument(
+        "--all", action="store_true", help="write a list of all nodes in order, without PLACES")
+    parser.add_argument(
+        "--plain", action="store_true",
+        help="search by a grid, as without scipy (Debian's package python3-scipy)")
     cli.add_max_metres(parser, "node")
     parser.add_argument("coordinates", metavar="OUT.co", help="the coordinates of the nodes")
-    parser.add_argument("places", metavar="PLACES", nargs="?", help="the file of places (standard input)")
+    parser.add_argument(
+        "places", metavar="PLACES", nargs="?", help="the file of places (standard input)")
     return parser.parse_intermixed_args(arguments)
 
 
-def found_at(places: Sequence[files.Place], coordinates: files.Coordinates, words: argparse.Namespace) -> tuple[list[int], list[str]]:
-    """The node of each place and the comment about it. Targets of queries, and of --targets, are the nodes where trips end."""
+def found_at(
+    places: Sequence[files.Place], coordinates: files.Coordinates, words: argparse.Namespace,
+) -> tuple[list[int], list[str]]:
+    """The node of each place and the comment about it. Targets of queries, and of --targets, are
+    the nodes where trips end."""
     index = nearest.index_of(coordinates, words.plain)
     nodes: list[int] = []
     notes, ends = [], coordinates.ends() if words.queries or words.targets else {}
     with Progress("nearest", len(places), "places") as progress:
         for start in range(0, len(places), MANY):
             part = places[start:start + MANY]
-            for place, node, metres in zip(part, *index.nearest([each.longitude for each in part], [each.latitude for each in part])):
+            for place, node, metres in zip(
+                part,
+                *index.nearest(
+                    [each.longitude for each in part], [each.latitude for each in part])):
                 if not metres <= words.max_metres:
                     raise TooFar(
-                        f"{place.told()} is {metres:,.0f} m from the nearest node, more than --max-metres {words.max_metres:,.0f}; "
-                        "a line is longitude, then latitude"
-                    )
+                        f"{place.told()} is {metres:,.0f} m from the nearest node, more than "
+                        f"--max-metres {words.max_metres:,.0f}; "
+                        "a line is longitude, then latitude")
                 is_target = words.targets or len(nodes) % 2
                 nodes.append(ends.get(int(node), int(node)) if is_target else int(node))
                 notes.append(f"{place.told()}: node {nodes[-1]}, {metres:.0f} m away")
@@ -77,7 +91,8 @@ def main(arguments: Sequence[str]) -> None:
         raise files.FileFault("a query needs two places, and the last line has no second")
     nodes, notes = found_at(places, coordinates, words)
     if words.queries:
-        files.write_queries(sys.stdout, list(zip(nodes[::2], nodes[1::2])), list(zip(notes[::2], notes[1::2])))
+        files.write_queries(
+            sys.stdout, list(zip(nodes[::2], nodes[1::2])), list(zip(notes[::2], notes[1::2])))
     else:
         files.write_list(sys.stdout, nodes, notes)
 

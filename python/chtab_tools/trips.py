@@ -26,7 +26,8 @@ import sys
 from collections.abc import Sequence
 from typing import IO, TYPE_CHECKING
 
-from chtab import cli, files
+import chtab_tools as cli
+from chtab import files
 from chtab._files import geojson
 
 if TYPE_CHECKING:
@@ -39,33 +40,47 @@ def words_of(arguments: Sequence[str]) -> argparse.Namespace:
     """Reads the arguments. Invalid ones end the process with status 2."""
     parser = cli.parser_of("trips", __doc__)
     kinds = parser.add_mutually_exclusive_group()
-    kinds.add_argument("--table", action="store_true", help="write CSV with a row and a column for each place")
-    kinds.add_argument("--geojson", action="store_true", help="write a line for each trip that has a way, with both names, its weight and its metres")
+    kinds.add_argument(
+        "--table", action="store_true", help="write CSV with a row and a column for each place")
+    kinds.add_argument(
+        "--geojson", action="store_true",
+        help="write a line for each trip that has a way, with both names, its weight and its "
+             "metres")
     cli.add_network(parser)
     parser.add_argument("places", metavar="PLACES", nargs="?", help="the places (standard input)")
     return parser.parse_intermixed_args(arguments)
 
 
-def write_trips(places: Sequence[files.Place], spots: Spots, weights: Integers, out: IO[str]) -> None:
+def write_trips(
+    places: Sequence[files.Place], spots: Spots, weights: Integers, out: IO[str],
+) -> None:
     """A line for each trip, from place 2 k to place 2 k + 1."""
     lines = csv.writer(out, lineterminator="\n")
     lines.writerow(["from", "to", "weight", "from_metres", "to_metres"])
     metres = [f"{each:.0f}" for each in spots.metres]
     for trip, weight in enumerate(weights.tolist()):
         start, end = 2 * trip, 2 * trip + 1
-        lines.writerow([places[start].told(), places[end].told(), "" if weight < 0 else weight, metres[start], metres[end]])
+        lines.writerow(
+            [
+                places[start].told(), places[end].told(), "" if weight < 0 else weight,
+                metres[start], metres[end]])
 
 
 def write_table(names: Sequence[str], table: Integers, out: IO[str]) -> None:
-    """Writes a table of all places as CSV, by their names, with an empty cell where there is no way."""
-    rows = ((name, [None if weight < 0 else weight for weight in row]) for name, row in zip(names, table.tolist()))
+    """Writes a table of all places as CSV, by their names, with an empty cell where there is no
+    way."""
+    rows = (
+        (name, [None if weight < 0 else weight for weight in row])
+        for name, row in zip(names, table.tolist()))
     files.write_csv(out, names, rows)
 
 
 def write_lines(places: Sequence[files.Place], trips: Sequence[Trip], out: IO[str]) -> None:
     """A feature for each trip that has a way."""
     ends = zip(places[::2], places[1::2])
-    features = [trip.to_geojson({"from": start.told(), "to": end.told()}) for (start, end), trip in zip(ends, trips) if trip.line]
+    features = [
+        trip.to_geojson({"from": start.told(), "to": end.told()})
+        for (start, end), trip in zip(ends, trips) if trip.line]
     json.dump(geojson.collection(features), out, ensure_ascii=False)
     out.write("\n")
 
@@ -77,9 +92,12 @@ def main(arguments: Sequence[str]) -> None:
     if len(places) % 2 and not words.table:
         raise files.FileFault("a trip needs two places, and the last line has no second")
     with cli.open_network(words) as network:
-        spots = network.snap([each.longitude for each in places], [each.latitude for each in places], words.max_metres)
+        spots = network.snap(
+            [each.longitude for each in places], [each.latitude for each in places],
+            words.max_metres)
         if words.table:
-            write_table([place.told() for place in places], network.trip_table(spots, spots), sys.stdout)
+            write_table(
+                [place.told() for place in places], network.trip_table(spots, spots), sys.stdout)
         elif words.geojson:
             write_lines(places, network.trip_routes(spots[::2], spots[1::2]), sys.stdout)
         else:

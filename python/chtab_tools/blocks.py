@@ -25,31 +25,27 @@ import logging
 import os
 from collections.abc import Sequence
 
-from chtab import cli, files
+import chtab_tools as cli
+from chtab import files
 
 
 def words_of(arguments: Sequence[str]) -> argparse.Namespace:
     """Reads the arguments. Invalid ones end the process with status 2."""
     parser = cli.parser_of("blocks", __doc__)
     parser.add_argument(
-        "--side", type=int, metavar="K", help="make blocks of K by K cells, 1 to 4,096 (4,096)"
-    )
+        "--side", type=int, metavar="K", help="make blocks of K by K cells, 1 to 4,096 (4,096)")
     parser.add_argument(
         "--processes", type=int, default=os.cpu_count(), metavar="P",
-        help="how many blocks are made at a time (the number of processors)",
-    )
+        help="how many blocks are made at a time (the number of processors)")
     parser.add_argument(
         "--scheduler", metavar="ADDRESS",
-        help="the address of a Dask scheduler, whose workers make the blocks",
-    )
+        help="the address of a Dask scheduler, whose workers make the blocks")
     parser.add_argument(
-        "--within", type=int, metavar="R", help="leave out distances above R, from 0 to 2^60"
-    )
+        "--within", type=int, metavar="R", help="leave out distances above R, from 0 to 2^60")
     cli.add_runs(parser)
     for name, shown, text in (
         ("graph", "GRAPH", "the graph"), ("sources", "SOURCES.ss", "the sources"),
-        ("targets", "TARGETS.ss", "the targets"), ("out", "OUT", "OUT.csv or OUT.npy"),
-    ):
+        ("targets", "TARGETS.ss", "the targets"), ("out", "OUT", "OUT.csv or OUT.npy")):
         parser.add_argument(name, metavar=shown, help=text)
     words = parser.parse_args(arguments)
     if not (1 <= (words.side or 1) <= 4_096 and words.processes >= 1):
@@ -60,7 +56,7 @@ def words_of(arguments: Sequence[str]) -> argparse.Namespace:
 def main(arguments: Sequence[str]) -> None:
     """Makes the table that the arguments ask for, and prints its size."""
     words = words_of(arguments)
-    from chtab._engine import tables
+    from chtab_tools import tables
     from chtab._engine.opening import Running
 
     if words.scheduler:
