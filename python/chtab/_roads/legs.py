@@ -241,6 +241,28 @@ def table_ways(trips: Trips, starts: Spots, ends: Spots, within: int | None = No
     return best, ways
 
 
+def table_weights(trips: Trips, starts: Spots, ends: Spots) -> Integers:
+    """The least weights of the ways from each spot to each (k, l), `FAR` where there is none: those
+    of `table_ways`, sooner where there are few."""
+    if not 0 < starts.out_nodes.size <= FEW or not 0 < ends.in_nodes.size <= FEW:
+        return table_ways(trips, starts, ends)[0]
+    # One way of all spots after the other, so that the least ones are found along whole rows.
+    outs, ins = starts.out_nodes.T, ends.in_nodes.T
+    sources, targets = (numpy.maximum(nodes, 1).reshape(-1) for nodes in (outs, ins))
+    found = trips.engine.table(sources, targets)
+    found[found < 0] = NOWHERE
+    found += numpy.where(outs > 0, starts.out_weights.T, NOWHERE).reshape(-1, 1)
+    found += numpy.where(ins > 0, ends.in_weights.T, NOWHERE).reshape(-1)
+    best: Integers = found.reshape(*outs.shape, *ins.shape).min(axis=2).min(axis=0)
+    if starts is ends and len({*starts.roads.tolist()}) == len(starts):
+        # Each spot has a road for itself.
+        best.reshape(-1)[::len(starts) + 1] = 0
+    else:
+        stay_on_roads(trips.roads, starts, ends, best, numpy.empty_like(best))
+    best[best > NOWHERE // 2] = FAR
+    return best
+
+
 def different_nodes(nodes: Integers) -> tuple[Integers, Integers]:
     """The nodes of spots (n, m) in one column, where each occurs once if there are many, and the place of each node there (n, m)."""
     if nodes.size <= FEW:
