@@ -21,6 +21,7 @@ from helpers.serving import COUNTRY, SERVICE, here, on_all_maps, service
 sys.path.insert(0, str(ROOT / "python"))
 
 import chtab  # noqa: E402
+from chtab._roads import legs  # noqa: E402
 from chtab._roads.legs import FAR, table_ways, table_weights  # noqa: E402
 from chtab._roads.snapping import BACKWARD, FORWARD, one_sided  # noqa: E402
 from chtab_server.osrm import answering, places, url  # noqa: E402
@@ -183,6 +184,23 @@ def tracks_have_legs_between_waypoints():
         raise AssertionError("no track was matched whole")
 
 
+def tracks_keep_to_their_directions():
+    """A track between two one-way roads, which says of its places in which direction they were
+    passed, is on the road that leads there, also where the other one is nearer."""
+    nodes = [(9.5, 47.1), (9.52, 47.1), (9.52, 47.1001), (9.5, 47.1001)]
+    ring = [(1, 2, 90_000), (2, 3, 1_000), (3, 4, 90_000), (4, 1, 1_000)]
+    write_network("sides", nodes, ring, "c Roads for cars, by hand.\nc Weights are milliseconds.\n")
+    with service("sides") as (_, address):
+        for track in [(9.51, 47.10006)] * 2, [(9.51, 47.10006)] * 3:
+            for bearing, latitude in ("", 47.1001), ("90,30", 47.1), ("270,30", 47.1001):
+                asked = ";".join([bearing] * len(track))
+                points = answer(address, "match", track, bearings=asked)["tracepoints"]
+                found = {point["location"][1] for point in points}
+                assert found == {latitude}, (bearing, points)
+            path = f"/match/v1/car/{text_of(track)}?bearings={';'.join(['0,30'] * len(track))}"
+            assert get(address, path)[1]["code"] == "NoMatch", path
+
+
 def places_at_the_curb():
     """A place is left, and come to, on the side of the road where it lies; one on the line on both, and one at a one-way road as the road leads."""
     comments = "c Roads for cars, by hand.\nc Weights are milliseconds.\n"
@@ -338,17 +356,28 @@ def small_tables_are_those_of_large_ones():
                     sides = [draw.choice((FORWARD, BACKWARD, 3)) for _ in spots[0].roads]
                     spots[0] = one_sided(spots[0], numpy.array(sides))
                 starts, ends = spots if draw.random() < 0.6 else spots[:1] * 2
-                small = table_weights(network._trips, starts, ends)
-                large, _ = table_ways(network._trips, starts, ends)
-                assert (small == large).all(), (out, starts, ends, small, large)
-                seen += (small == FAR).any() + 1j * (starts is ends)
+                within = draw.choice((None, 100_000))
+                small = table_ways(network._trips, starts, ends, within)
+                weights = table_weights(network._trips, starts, ends)
+                few, legs.FEW = legs.FEW, 0
+                try:
+                    large = table_ways(network._trips, starts, ends, within)
+                    least, _ = table_ways(network._trips, starts, ends)
+                finally:
+                    legs.FEW = few
+                assert (small[0] == large[0]).all(), (out, starts, ends)
+                assert (weights == least).all(), (out, starts, ends)
+                is_way = small[0] < FAR
+                assert (small[1] == large[1])[is_way].all(), (out, starts, ends, small, large)
+                seen += (least == FAR).any() + 1j * (starts is ends)
             assert seen.real > 0 and seen.imag > 20, seen
 
 
 GROUPS = (
     (SERVICE, [
         places_that_are_kept_change_no_answer, small_tables_are_those_of_large_ones,
-        bearings_choose_the_way, places_at_the_curb, cells_without_a_way_are_filled, short_roads_have_two_ends,
+        bearings_choose_the_way, tracks_keep_to_their_directions, places_at_the_curb,
+        cells_without_a_way_are_filled, short_roads_have_two_ends,
         *on_all_maps(
             bearings_hold_where_turns_are_forbidden, routes_go_straight_on_at_stops, legs_lead_between_waypoints, nearest_roads_that_lead_in_a_direction,
             tracks_have_legs_between_waypoints,

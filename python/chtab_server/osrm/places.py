@@ -17,7 +17,7 @@ if TYPE_CHECKING:
     from chtab.typing import Floats, Integers, Point
 
 # How many places are kept, each with about 1,500 bytes. Then all are looked for anew.
-MOST = 1 << 14
+MOST = 1 << 13
 # How many places have room at first.
 ROOM = 64
 # The columns of fractions: longitude and latitude on the road, metres, part of the road, and the
