@@ -433,6 +433,13 @@ def units_are_some_of_systemd():
         assert "\nType=notify\n" in text
         check_unit(text.replace(command.split()[0], "/usr/bin/python3").replace("Documentation=man:chtab-page(1)\n", ""), name)
         check_command(command.replace("%i", "roads").split()[1:])
+    # After a reboot only enabled units are started: the recipe of a new map leaves the old one out.
+    for page in ROOT / "packaging" / "chtab-page@.service", ROOT / "docs" / "OPERATING.md":
+        steps = re.findall(r"systemctl (.*?)(?= &&|$)", page.read_text(), re.MULTILINE)
+        recipe = [step for step in steps if "@NEW" in step or "disable" in step]
+        assert recipe == [
+            "start chtab-page@NEW", "disable --now chtab-page@OLD", "enable chtab-page@NEW",
+        ], (page, steps)
 
 
 def check_unit(text, name):
