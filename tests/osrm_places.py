@@ -313,6 +313,10 @@ def places_that_are_kept_change_no_answer():
                     for place, text in zip(asked, found, strict=True):
                         assert text == before[place], (out, targets[place], text, before[place])
             assert len(few.places.rows) < 80 and {text[:9] for text in before} >= {'{"code": '}
+            # Routes with lines and without are answered together, each in its place.
+            own = [place for place, target in enumerate(targets) if target.startswith("/route/")]
+            asked = [few.question(url.words_of(targets[place], 1 << 16)) for place in own]
+            assert list(map(str, few.routes(asked))) == [before[place] for place in own], out
 
 
 def drawn_target(draw, known):
