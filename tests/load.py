@@ -198,12 +198,15 @@ def an_address_takes_its_share():
     client that the proxy names."""
     others = "127.0.0.2", "127.0.0.4", "10.1.0.1", "10.1.1.1"
     with faulty_service("", "--waiting", "12", "--proxy", "127.0.0.3", "--log", "access.log") as (_, address):
+        def table(place):
+            return f"/table/v1/car/{9.52 + place / 1000:.3f},47.1410;9.5450,47.2200"
+
         def greedy(place):
-            return Client(address, "127.0.0.1").ask(f"/table/v1/car/{9.52 + place / 1000:.3f},47.1410;9.5450,47.2200")[0]
+            return Client(address, "127.0.0.1").ask(table(place))[0]
 
         def other(client):
             source, headers = (client, {}) if client.startswith("127.") else ("127.0.0.3", {"X-Forwarded-For": f"10.0.0.9, {client}"})
-            return Client(address, source).ask(ROUTE, headers=headers)[0]
+            return Client(address, source).ask(table(30), headers=headers)[0]
 
         with concurrent.futures.ThreadPoolExecutor(40) as clients:
             waiting = []
@@ -433,6 +436,13 @@ def units_are_some_of_systemd():
         assert "\nType=notify\n" in text
         check_unit(text.replace(command.split()[0], "/usr/bin/python3").replace("Documentation=man:chtab-page(1)\n", ""), name)
         check_command(command.replace("%i", "roads").split()[1:])
+    # After a reboot only enabled units are started: the recipe of a new map leaves the old one out.
+    for page in ROOT / "packaging" / "chtab-page@.service", ROOT / "docs" / "OPERATING.md":
+        steps = re.findall(r"systemctl (.*?)(?= &&|$)", page.read_text(), re.MULTILINE)
+        recipe = [step for step in steps if "@NEW" in step or "disable" in step]
+        assert recipe == [
+            "start chtab-page@NEW", "disable --now chtab-page@OLD", "enable chtab-page@NEW",
+        ], (page, steps)
 
 
 def check_unit(text, name):

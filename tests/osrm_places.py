@@ -4,20 +4,28 @@ stops, how routes go on there, and what a table says where no way leads.
 
 A check that needs a missing package is named and left out. The last line is 'N passed, N failed'.
 """
+import concurrent.futures
 import math
 import random
 import sys
 
+import numpy
+
 from helpers import running
 from helpers.asking_osrm import answer, distance_to, get, on_sphere, some_nodes, text_of, write_network
+from helpers.maps import town, town_at_a_cost
 from helpers.packages import run_checks
 from helpers.running import PROGRAM, ROOT
-from helpers.serving import SERVICE, here, on_all_maps, service
+from helpers.serving import COUNTRY, SERVICE, here, on_all_maps, service
 
 sys.path.insert(0, str(ROOT / "python"))
 
 import chtab  # noqa: E402
-from chtab_server.osrm.nearby import find_some  # noqa: E402
+from chtab._roads import legs  # noqa: E402
+from chtab._roads.legs import FAR, table_ways, table_weights  # noqa: E402
+from chtab._roads.snapping import BACKWARD, FORWARD  # noqa: E402
+from chtab_server.osrm import answering, places, url  # noqa: E402
+from chtab_server.osrm.nearby import find_some, one_sided  # noqa: E402
 
 # What lies between the places of a leg, as annotations name it.
 PARTS = "duration", "distance", "weight", "speed", "datasources"
@@ -177,6 +185,23 @@ def tracks_have_legs_between_waypoints():
         raise AssertionError("no track was matched whole")
 
 
+def tracks_keep_to_their_directions():
+    """A track between two one-way roads, which says of its places in which direction they were
+    passed, is on the road that leads there, also where the other one is nearer."""
+    nodes = [(9.5, 47.1), (9.52, 47.1), (9.52, 47.1001), (9.5, 47.1001)]
+    ring = [(1, 2, 90_000), (2, 3, 1_000), (3, 4, 90_000), (4, 1, 1_000)]
+    write_network("sides", nodes, ring, "c Roads for cars, by hand.\nc Weights are milliseconds.\n")
+    with service("sides") as (_, address):
+        for track in [(9.51, 47.10006)] * 2, [(9.51, 47.10006)] * 3:
+            for bearing, latitude in ("", 47.1001), ("90,30", 47.1), ("270,30", 47.1001):
+                asked = ";".join([bearing] * len(track))
+                points = answer(address, "match", track, bearings=asked)["tracepoints"]
+                found = {point["location"][1] for point in points}
+                assert found == {latitude}, (bearing, points)
+            path = f"/match/v1/car/{text_of(track)}?bearings={';'.join(['0,30'] * len(track))}"
+            assert get(address, path)[1]["code"] == "NoMatch", path
+
+
 def places_at_the_curb():
     """A place is left, and come to, on the side of the road where it lies; one on the line on both, and one at a one-way road as the road leads."""
     comments = "c Roads for cars, by hand.\nc Weights are milliseconds.\n"
@@ -258,9 +283,106 @@ def short_roads_have_two_ends():
             assert durations == [0, 60.7, 60], (place, durations)
 
 
+def drawn_coordinates(draw, known, count):
+    """Coordinates at nodes, near them and farther from them, some of them twice."""
+    found = [
+        tuple(round(part + draw.gauss(0, draw.choice((0, 2e-6, 2e-4, 3e-3))), 6) for part in place)
+        for place in draw.choices(known, k=count)
+    ]
+    return [*found, *draw.choices(found, k=draw.choice((0, 0, 2)))]
+
+
+def places_that_are_kept_change_no_answer():
+    """Answers by places that are kept, and that are found anew once there are too many, are those
+    of a service that was never asked before; also where several threads ask."""
+    draw = random.Random("kept places")
+    for out in COUNTRY, town(), town_at_a_cost():
+        with chtab.Network.open(f"{out}.gr", program=PROGRAM) as network:
+            coordinates = network.coordinates
+            known = [coordinates.of(node) for node in draw.sample(coordinates.known(), 30)]
+            targets = [drawn_target(draw, known) for _ in range(150)]
+            before = [answered(answering.Answers(network), target) for target in targets]
+            asked = sorted([*range(len(targets))] * 3, key=lambda _: draw.random())
+            most, places.MOST = places.MOST, 40
+            try:
+                few = answering.Answers(network)
+            finally:
+                places.MOST = most
+            for answers in answering.Answers(network), few:
+                with concurrent.futures.ThreadPoolExecutor(4) as threads:
+                    found = threads.map(lambda place: answered(answers, targets[place]), asked)
+                    for place, text in zip(asked, found, strict=True):
+                        assert text == before[place], (out, targets[place], text, before[place])
+            assert len(few.places.rows) < 80 and {text[:9] for text in before} >= {'{"code": '}
+            # Routes with lines and without are answered together, each in its place.
+            own = [place for place, target in enumerate(targets) if target.startswith("/route/")]
+            asked = [few.question(url.words_of(targets[place], 1 << 16)) for place in own]
+            assert list(map(str, few.routes(asked))) == [before[place] for place in own], out
+
+
+def drawn_target(draw, known):
+    """The target of a request for a table, a route or the nearest road, some with options by which
+    places are taken to other spots than those that are kept."""
+    asked = ("table", 9), ("table", 3), ("route", 2), ("route", 4), ("nearest", 1)
+    name, count = draw.choice(asked)
+    chosen = drawn_coordinates(draw, known, count)[:1 if name == "nearest" else None]
+    query = {
+        "table": ("annotations=duration,distance", ""), "route": ("overview=false", "steps=true"),
+    }
+    words = [draw.choice(query.get(name, ("",)))]
+    if draw.random() < 0.3:
+        words.append("bearings=" + ";".join(draw.choice(("", "90,90", "200,60")) for _ in chosen))
+    if draw.random() < 0.3:
+        words.append("approaches=" + ";".join(draw.choice(("", "curb")) for _ in chosen))
+    return f"/{name}/v1/x/{text_of(chosen)}?{'&'.join(filter(None, words))}"
+
+
+def answered(answers, target):
+    """The answer to a request, or the refusal, as a text."""
+    question = answers.question(url.words_of(target, 1 << 16))
+    call = {"table": answers.tables, "route": answers.routes, "nearest": answers.nearest_ones}
+    [found] = call[question.service]([question])
+    return str(found)
+
+
+def small_tables_are_those_of_large_ones():
+    """The weights of small tables are found in another way than those of large ones: cell by cell
+    they are the same, also on one road, at nodes, where no way leads, and from spots that are left
+    in one direction alone."""
+    draw = random.Random("small tables")
+    for out in COUNTRY, town(), town_at_a_cost():
+        with chtab.Network.open(f"{out}.gr", program=PROGRAM) as network:
+            known, seen = [network.coordinates.of(node) for node in network.coordinates.known()], 0
+            for _ in range(150):
+                near = draw.choice((known, draw.choices(known, k=2)))
+                drawn = [drawn_coordinates(draw, near, draw.choice((1, 3, 9))) for _ in range(2)]
+                spots = [network.roads.find_any(*zip(*each)) for each in drawn]
+                if draw.random() < 0.3:
+                    sides = [draw.choice((FORWARD, BACKWARD, 3)) for _ in spots[0].roads]
+                    spots[0] = one_sided(spots[0], numpy.array(sides))
+                starts, ends = spots if draw.random() < 0.6 else spots[:1] * 2
+                within = draw.choice((None, 100_000))
+                small = table_ways(network._trips, starts, ends, within)
+                weights = table_weights(network._trips, starts, ends)
+                few, legs.FEW = legs.FEW, 0
+                try:
+                    large = table_ways(network._trips, starts, ends, within)
+                    least, _ = table_ways(network._trips, starts, ends)
+                finally:
+                    legs.FEW = few
+                assert (small[0] == large[0]).all(), (out, starts, ends)
+                assert (weights == least).all(), (out, starts, ends)
+                is_way = small[0] < FAR
+                assert (small[1] == large[1])[is_way].all(), (out, starts, ends, small, large)
+                seen += (least == FAR).any() + 1j * (starts is ends)
+            assert seen.real > 0 and seen.imag > 20, seen
+
+
 GROUPS = (
     (SERVICE, [
-        bearings_choose_the_way, places_at_the_curb, cells_without_a_way_are_filled, short_roads_have_two_ends,
+        places_that_are_kept_change_no_answer, small_tables_are_those_of_large_ones,
+        bearings_choose_the_way, tracks_keep_to_their_directions, places_at_the_curb,
+        cells_without_a_way_are_filled, short_roads_have_two_ends,
         *on_all_maps(
             bearings_hold_where_turns_are_forbidden, routes_go_straight_on_at_stops, legs_lead_between_waypoints, nearest_roads_that_lead_in_a_direction,
             tracks_have_legs_between_waypoints,

@@ -311,8 +311,8 @@ def lone_routes_are_those_found_together():
                     other = [part + draw.gauss(0, 1e-4) for part in one]
                 places = ";".join(f"{x:.6f},{y:.6f}" for x, y in (one, other))
                 question = answers.question(url.words_of(f"/route/v1/x/{places}?overview=false", 1 << 16))
-                [alone], together = answers.routes([question]), answers.routes([question, question])
-                assert [str(alone)] * 2 == list(map(str, together)), (out, places)
+                [alone], together = answers.routes([question]), answers.routes_together([question])
+                assert [str(alone)] == list(map(str, together)), (out, places)
                 ways[str(alone)[:9]] += 1
         assert ways['{"code": '] > 300, ways
 

@@ -230,6 +230,20 @@ def table_ways(
     trips: Trips, starts: Spots, ends: Spots, within: int | None = None,
 ) -> tuple[Integers, Integers]:
     """The least weights of the ways from each spot to each (k, l), `FAR` for none; which."""
+    if are_few(starts, ends):
+        cells = few_totals(trips, starts, ends, within)
+        best, ways = cells.min(axis=0), cells.argmin(axis=0)
+    else:
+        best, ways = many_ways(trips, starts, ends, within)
+    stay_on_roads(trips.roads, starts, ends, best, ways)
+    best[best > (NOWHERE // 2 if within is None else within)] = FAR
+    return best, ways
+
+
+def many_ways(
+    trips: Trips, starts: Spots, ends: Spots, within: int | None,
+) -> tuple[Integers, Integers]:
+    """The least weights of the ways by nodes from each spot to each, and which way this is."""
     outs, out_place = different_nodes(starts.out_nodes)
     ins, in_place = different_nodes(ends.in_nodes)
     nodes = node_weights(trips, outs, ins, within)
@@ -246,9 +260,39 @@ def table_ways(
         totals += starts.out_weights[rows][:, out].reshape(-1, 1)
         totals += behind
         best[rows], ways[rows] = least_of(totals, len(ends), len(out), numbers)
-    stay_on_roads(trips.roads, starts, ends, best, ways)
-    best[best > (NOWHERE // 2 if within is None else within)] = FAR
     return best, ways
+
+
+def table_weights(trips: Trips, starts: Spots, ends: Spots) -> Integers:
+    """The least weights of `table_ways` alone, which takes less time where there are few."""
+    if not are_few(starts, ends):
+        return table_ways(trips, starts, ends)[0]
+    best: Integers = few_totals(trips, starts, ends, None).min(axis=0)
+    if starts is ends and len({*starts.roads.tolist()}) == len(starts):
+        # Each spot has a road for itself.
+        best.reshape(-1)[::len(starts) + 1] = 0
+    else:
+        stay_on_roads(trips.roads, starts, ends, best, numpy.empty_like(best))
+    best[best > NOWHERE // 2] = FAR
+    return best
+
+
+def are_few(starts: Spots, ends: Spots) -> bool:
+    """Whether the weights of all ways of a table take little memory."""
+    return 0 < starts.out_nodes.size <= FEW and 0 < ends.in_nodes.size <= FEW
+
+
+def few_totals(trips: Trips, starts: Spots, ends: Spots, within: int | None) -> Integers:
+    """The weights of all ways by nodes from each spot to each (w, k, l), at least `NOWHERE` where
+    there is none. A way's number is its place."""
+    outs, ins = starts.out_nodes.T, ends.in_nodes.T
+    sources, targets = (numpy.maximum(nodes, 1).reshape(-1) for nodes in (outs, ins))
+    found = trips.engine.table(sources, targets, within)
+    found[found < 0] = NOWHERE
+    found += numpy.where(outs > 0, starts.out_weights.T, NOWHERE).reshape(-1, 1)
+    found += numpy.where(ins > 0, ends.in_weights.T, NOWHERE).reshape(-1)
+    ways = found.reshape(*outs.shape, *ins.shape).transpose(0, 2, 1, 3)
+    return ways.reshape(-1, len(starts), len(ends))
 
 
 def different_nodes(nodes: Integers) -> tuple[Integers, Integers]:

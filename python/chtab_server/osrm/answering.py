@@ -8,7 +8,7 @@ from typing import TYPE_CHECKING, Any, NamedTuple
 import numpy
 
 from chtab_maps import profiles
-from chtab._roads.legs import FAR, legs_between, legs_by, metres_by, table_ways
+from chtab._roads.legs import FAR, legs_between, legs_by, metres_by, table_ways, table_weights
 from chtab._roads.lines import metres_between
 from chtab._roads.snapping import length_text
 from chtab_server.osrm import (
@@ -17,6 +17,7 @@ from chtab_server.osrm import (
 from chtab_server.osrm.crossings import Crossings
 from chtab_server.osrm.drawing import Drawing
 from chtab_server.osrm.options import Refusal
+from chtab_server.osrm.places import Places
 from chtab_server.osrm.steps import Steps
 from chtab_server.osrm.stops import straight_ways
 
@@ -35,6 +36,8 @@ BATCH = 2_048
 MILLISECONDS = 1_000
 # Tenths of a metre in a metre: answers give one digit after the decimal point.
 TENTHS = 10
+# Degrees are given in millionths.
+MILLIONTHS = 1_000_000
 # Characters of a coordinate with seven digits behind the point, and of what else stands in an address.
 OF_COORDINATE, OF_ADDRESS = 28, 4_096
 
@@ -69,6 +72,20 @@ class Question(NamedTuple):
     own: Any
 
 
+class Taken(NamedTuple):
+    """Where coordinates are taken to: their spots, their waypoints as the insides of objects of
+    JSON, and the faults of questions with a coordinate that has no road: {place: fault}."""
+
+    spots: Spots
+    waypoints: list[str]
+    faults: dict[int, Refusal]
+
+
+def coordinates_of(questions: Sequence[Question]) -> list[Point]:
+    """The coordinates of questions, one question after the other."""
+    return [place for question in questions for place in question.coordinates]
+
+
 def profile_of(comments: Sequence[str]) -> str:
     """The way of travelling that a graph was made for, from its comments; empty if they don't say."""
     for name in profiles.NAMES:
@@ -94,6 +111,7 @@ class Answers:
         steps = Steps(crossings, mode)
         drawings = {form: Drawing(network.roads.lines, network.nodes, form) for form in options.FORMS}
         self.voice = telling.Voice(steps, numbers, drawings)
+        self.places = Places(network.roads, self.waypoint)
 
     def question(self, words: url.Words) -> Question:
         """The question of a request, which is read before anything is looked up."""
@@ -120,11 +138,11 @@ class Answers:
 
     # Where coordinates are taken to.
 
-    def spots_of(self, questions: Sequence[Question]) -> tuple[Spots, dict[int, Refusal]]:
-        """The spots of questions, one after the other, and the faults of those that have a coordinate without a road: {place: fault}."""
+    def spots_of(self, questions: Sequence[Question]) -> Taken:
+        """Where the coordinates of questions are taken to, one question after the other."""
         roads = self.network.roads
-        spots = roads.find_any(*numpy.array([place for question in questions for place in question.coordinates]).T)
-        faults, first = {}, 0
+        spots, waypoints = self.places.found(coordinates_of(questions))
+        known, faults, first = spots, {}, 0
         for place, question in enumerate(questions):
             general, fault = question.general, None
             if general.has_bearings:
@@ -136,7 +154,7 @@ class Answers:
             if fault:
                 faults[place] = fault
             first += len(question.coordinates)
-        return spots, faults
+        return Taken(spots, waypoints if spots is known else self.waypoints(spots), faults)
 
     def at_curbs(self, spots: Spots, question: Question, first: int) -> tuple[Spots, Refusal | None]:
         """The spots, of which those of a question that are to be at the curb are left and reached on the side of the road where their coordinate lies;
@@ -150,28 +168,46 @@ class Answers:
         places[which] = len(spots) + numpy.arange(len(which))
         return every[places], None
 
-    def own_spots(self, question: Question) -> Spots:
-        """The spots of one question. Raises a refusal if a coordinate is too far from each road."""
-        spots, faults = self.spots_of([question])
-        for fault in faults.values():
+    def own_spots(self, question: Question) -> Taken:
+        """The same of one question. Raises a refusal if a coordinate is too far from each road."""
+        found = self.spots_of([question])
+        for fault in found.faults.values():
             raise fault
-        return spots
+        return found
+
+    def waypoint(self, longitude: float, latitude: float, metres: float, road: int) -> str:
+        """OSRM's waypoint on a road, so far from its coordinate, as the inside of an object of
+        JSON, without a hint."""
+        x, y = (round(each * MILLIONTHS) / MILLIONTHS for each in (longitude, latitude))
+        name = self.voice.steps.names[self.voice.steps.known.street_of[2 * road]]
+        off = round(metres * TENTHS) / TENTHS
+        return f'"location": [{x}, {y}], "name": {name}, "distance": {off}'
 
     def waypoints(self, spots: Spots) -> list[str]:
-        """OSRM's waypoints of spots, as the insides of objects of JSON, without hints."""
-        columns = (spots.longitudes.round(6).tolist(), spots.latitudes.round(6).tolist(), spots.metres.round(1).tolist())
-        steps = self.voice.steps
-        names = [steps.names[street] for street in steps.known.street_of[2 * spots.roads].tolist()]
-        return [f'"location": [{x}, {y}], "name": {name}, "distance": {metres}' for x, y, metres, name in zip(*columns, names)]
+        """OSRM's waypoints of spots."""
+        columns = spots.longitudes, spots.latitudes, spots.metres, spots.roads
+        return [self.waypoint(*each) for each in zip(*(column.tolist() for column in columns))]
 
     # Routes.
 
     def routes(self, questions: Sequence[Question]) -> list[str | Refusal]:
-        """The answers to questions for routes, found together, as texts or refusals."""
-        if len(questions) == 1 and lone.is_lone(questions[0].general, questions[0].own, len(questions[0].coordinates)):
-            return [self.lone_route(questions[0])]
-        spots, faults = self.spots_of(questions)
-        waypoints = self.waypoints(spots)
+        """The answers to questions for routes, as texts or refusals."""
+        are_lone = [
+            lone.is_lone(each.general, each.own, len(each.coordinates)) for each in questions
+        ]
+        if all(are_lone):
+            return self.lone_routes(questions)
+        if not any(are_lone):
+            return self.routes_together(questions)
+        parts: tuple[list[Question], list[Question]] = [], []
+        for question, is_lone in zip(questions, are_lone):
+            parts[is_lone].append(question)
+        found = iter(self.routes_together(parts[0])), iter(self.lone_routes(parts[1]))
+        return [next(found[is_lone]) for is_lone in are_lone]
+
+    def routes_together(self, questions: Sequence[Question]) -> list[str | Refusal]:
+        """The answers to any questions for routes, found together."""
+        spots, waypoints, faults = self.spots_of(questions)
         cuts = numpy.cumsum([0, *(len(question.coordinates) for question in questions)]).tolist()
         # A leg leads from each spot to the next one, but from the last of a question.
         firsts = numpy.delete(numpy.arange(len(spots)), numpy.array(cuts[1:]) - 1)
@@ -201,13 +237,16 @@ class Answers:
         parts = [[place] for place in range(len(found))]
         return "".join([f", {text}" for text in self.route_texts(found, parts, [own] * len(parts))])
 
-    def lone_route(self, question: Question) -> str | Refusal:
-        """The answer to a question for a route between two places without a line."""
-        found, known = lone.Found(self.network._trips, question.coordinates), self.voice.steps
-        if found.weight is None:
-            return Refusal("NoRoute", NO_ROUTE)
-        told = found.waypoints(known.names, known.known.street_of)
-        return answer_of("routes", found.route_text(), "waypoints", objects(told, question.general))
+    def lone_routes(self, questions: Sequence[Question]) -> list[str | Refusal]:
+        """The answers to questions for routes between two places without a line."""
+        stops, waypoints = self.places.stops_of(coordinates_of(questions))
+        texts = lone.texts_of(self.network._trips, list(zip(stops[::2], stops[1::2])))
+        listed = zip(waypoints[::2], waypoints[1::2])
+        return [
+            Refusal("NoRoute", NO_ROUTE) if text is None
+            else answer_of("routes", text, "waypoints", objects(told, question.general))
+            for text, told, question in zip(texts, listed, questions)
+        ]
 
     def is_straight(self, own: options.Route) -> bool:
         """Whether a route goes straight on at its stops: by default those of cars do, as OSRM has it."""
@@ -222,7 +261,7 @@ class Answers:
     def trip(self, question: Question) -> str:
         """The answer to a question for a trip over all coordinates, in a short order."""
         own, general = question.own, question.general
-        spots = self.own_spots(question)
+        spots, waypoints, _ = self.own_spots(question)
         best, _ = table_ways(self.network._trips, spots, spots)
         order = tours.tour(numpy.where(best < FAR, best, -1), own.is_round, own.is_first_fixed, own.is_last_fixed)
         stops = spots[numpy.append(order, order[:1]) if own.is_round else order]
@@ -231,7 +270,10 @@ class Answers:
             raise Refusal("NoTrips", "no way leads over all coordinates")
         [text] = self.route_texts(legs, [list(range(len(legs)))], [own.route])
         ranks = numpy.argsort(order).tolist()
-        told = [f'{each}, "trips_index": 0, "waypoint_index": {rank}' for each, rank in zip(self.waypoints(spots), ranks)]
+        told = [
+            f'{each}, "trips_index": 0, "waypoint_index": {rank}'
+            for each, rank in zip(waypoints, ranks)
+        ]
         return answer_of("trips", text, "waypoints", objects(told, general))
 
     def match(self, question: Question) -> str:
@@ -279,11 +321,10 @@ class Answers:
     def table(self, question: Question) -> str:
         """The durations of a table, the metres of the routes that these are of, or both."""
         own, general = question.own, question.general
-        spots = self.own_spots(question)
+        spots, waypoints, _ = self.own_spots(question)
         starts, ends = (spots if some == list(range(len(spots))) else spots[some] for some in (own.sources, own.destinations))
-        best, ways = table_ways(self.network._trips, starts, ends)
+        best, metres = self.weights_and_metres(starts, ends, own.has_distances)
         is_there, parts = best < FAR, []
-        metres = self.metres(starts, ends, best, ways) if own.has_distances else None
         if own.fallback is not None:
             straight = straight_lines(question, starts, ends)
             best, told = numpy.where(is_there, best, straight / own.fallback * MILLISECONDS), numpy.argwhere(~is_there).tolist()
@@ -294,10 +335,19 @@ class Answers:
         if metres is not None:
             parts.append(f'"distances": {rows_of(metres * TENTHS, 1, is_there)}')
         if general.has_waypoints:
-            told = self.waypoints(spots)
             for name, some in ("sources", own.sources), ("destinations", own.destinations):
-                parts.append(f'"{name}": {objects([told[place] for place in some], general)}')
+                parts.append(f'"{name}": {objects([waypoints[place] for place in some], general)}')
         return f'{{"code": "Ok", {", ".join(parts)}}}'
+
+    def weights_and_metres(
+        self, starts: Spots, ends: Spots, has_metres: bool,
+    ) -> tuple[Integers, Floats | None]:
+        """The weight of the best way of each cell, `FAR` where there is none, and its metres, if
+        they are asked for."""
+        if not has_metres:
+            return table_weights(self.network._trips, starts, ends), None
+        best, ways = table_ways(self.network._trips, starts, ends)
+        return best, self.metres(starts, ends, best, ways)
 
     def metres(self, starts: Spots, ends: Spots, best: Integers, ways: Integers) -> Floats:
         """The metres of the route of each cell, if it has one."""
@@ -323,20 +373,20 @@ class Answers:
         see_that_near(spots[:1], question.general.radiuses)
         spots = spots[numpy.argsort(spots.metres, kind="stable")]
         spots = spots[spots.metres <= question.general.radiuses[0]]
-        return nearest_answer(self.waypoints_with_nodes(spots), question.general)
+        return nearest_answer(self.with_nodes(spots, self.waypoints(spots)), question.general)
 
     def nearest_ones(self, questions: Sequence[Question]) -> list[str | Refusal]:
         """The answers to questions for the one nearest road, as texts or faults, found together."""
-        spots, faults = self.spots_of(questions)
-        told = self.waypoints_with_nodes(spots)
+        spots, waypoints, faults = self.spots_of(questions)
+        told = self.with_nodes(spots, waypoints)
         return [faults.get(place) or nearest_answer([told[place]], question.general) for place, question in enumerate(questions)]
 
-    def waypoints_with_nodes(self, spots: Spots) -> list[str]:
-        """The same as `waypoints`, with the numbers of the nodes at both ends of each road."""
+    def with_nodes(self, spots: Spots, waypoints: Sequence[str]) -> list[str]:
+        """The waypoints of spots with the numbers of the nodes at both ends of each road."""
         roads, numbers = self.network.roads, self.voice.numbers
         nodes = numpy.column_stack([roads.firsts[spots.roads], roads.lasts[spots.roads]])
         called = nodes if numbers is None else numbers[nodes - 1]
-        return [f'"nodes": {pair}, {each}' for pair, each in zip(called.tolist(), self.waypoints(spots))]
+        return [f'"nodes": {pair}, {each}' for pair, each in zip(called.tolist(), waypoints)]
 
 
 # Texts of JSON.

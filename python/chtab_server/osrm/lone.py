@@ -1,26 +1,28 @@
-"""A route between two places without a line, which is asked for by itself: found and told by plain
-numbers, because it takes longer to call numpy than to compute what it is asked for.
+"""Routes between two places without lines: found and told by plain numbers, because it takes longer
+to call numpy than to compute what they are asked for. The engine is asked for all of them at once.
 
-It is the route that `answering` finds for many such questions together, and told in the same text.
+They are the routes that `answering` finds for other questions, and told in the same text.
 """
 from __future__ import annotations
 
-from collections.abc import Sequence
-from typing import TYPE_CHECKING
+from collections.abc import Iterator, Sequence
+from typing import TYPE_CHECKING, NamedTuple, TypeAlias
 
 import numpy
 
 from chtab.errors import mismatch
+from chtab._engine.library import FEW
 from chtab._roads.snapping import NANOMETRE, NONE
 
 if TYPE_CHECKING:
-    from chtab._roads.leaving import Few
     from chtab._roads.snapping import Roads
     from chtab._roads.trips import Trips
     from chtab_server.osrm import options
-    from chtab.typing import Integers, Point
+    from chtab_server.osrm.places import Stop
 
-MILLISECONDS, MILLIONTHS = 1_000, 1_000_000
+MILLISECONDS = 1_000
+# A way out of a road, or into one: the end of the road, 0 or 1, the node, and the weight.
+End: TypeAlias = "tuple[int, int, int]"
 
 
 def is_lone(general: options.General, own: options.Route, count: int) -> bool:
@@ -32,79 +34,90 @@ def is_lone(general: options.General, own: options.Route, count: int) -> bool:
     )
 
 
-class Found:
-    """The best way between two places."""
+class Way(NamedTuple):
+    """A way between two stops: its weight, and the ends of roads that it leaves and arrives by;
+    None if it is along a single road."""
 
-    def __init__(self, trips: Trips, places: Sequence[Point]) -> None:
-        self.trips, self.roads = trips, trips.roads
-        self.one, self.other = self.roads.few(*zip(*places))
-        # The least weight, None where there is no way, and the metres of that way.
-        self.weight: int | None = None
-        self.metres = 0.0
-        self.find()
-
-    def find(self) -> None:
-        """Finds the first of the best ways."""
-        outs = [(side, node, weight) for side, node, weight in self.one.outs if node > 0]
-        ins = [(side, node, weight) for side, node, weight in self.other.ins if node > 0]
-        pairs = [(out, into) for out in outs for into in ins]
-        known = self.distances([(out[1], into[1]) for out, into in pairs])
-        best: tuple[tuple[int, int, int], tuple[int, int, int]] | None = None
-        for (out, into), between in zip(pairs, known):
-            if between >= 0:
-                total = between + out[2] + into[2]
-                if self.weight is None or total < self.weight:
-                    self.weight, best = total, (out, into)
-        along = self.along()
-        if along is not None and (self.weight is None or along < self.weight):
-            self.weight = along
-            self.metres = abs(self.other.part - self.one.part) * self.one.length
-        elif best is not None:
-            self.metres = self.length(*best)
-
-    def distances(self, pairs: Sequence[tuple[int, int]]) -> Sequence[int]:
-        """The distances of some pairs of nodes, -1 where there is no walk."""
-        if not pairs:
-            return []
-        sources, targets = zip(*pairs)
-        found = self.trips.engine.few_distances(sources, targets)
-        return self.trips.engine.distances(numpy.array(pairs)).tolist() if found is None else found
-
-    def along(self) -> int | None:
-        """The weight along the road that both places are on; None if they aren't on one, or if no
-        arc leads that way."""
-        if self.one.road != self.other.road:
-            return None
-        part = self.other.part - self.one.part
-        weights = self.roads.forward if part >= 0 else self.roads.backward
-        weight = int(weights[self.one.road])
-        return None if weight == NONE and part else round(abs(part) * max(weight, 0))
-
-    def length(self, out: tuple[int, int, int], into: tuple[int, int, int]) -> float:
-        """The metres of a way over two nodes."""
-        pair = numpy.array([[out[1], into[1]]])
-        weights, sums = self.trips.engine.sums(pair, self.roads.nanometres)
-        if int(weights[0]) + out[2] + into[2] != self.weight:
-            raise mismatch()
-        first = abs(out[0] - self.one.part) * self.one.length
-        last = abs(into[0] - self.other.part) * self.other.length
-        return float(first + int(sums[0]) * NANOMETRE + last)
-
-    def route_text(self) -> str:
-        """The text of the route."""
-        assert self.weight is not None
-        duration, metres = self.weight / MILLISECONDS, round(self.metres, 1)
-        told = f'"distance": {metres}, "duration": {duration}, "weight": {duration}'
-        leg = f'{{{told}, "summary": "", "steps": []}}'
-        return f'{{{told}, "weight_name": "duration", "legs": [{leg}]}}'
-
-    def waypoints(self, names: Sequence[str], streets: Integers) -> list[str]:
-        """Both waypoints, as the insides of objects of JSON. `names` has those of streets, and
-        `streets` the street of each end of a road."""
-        return [waypoint(each, names[streets[2 * each.road]]) for each in (self.one, self.other)]
+    weight: int
+    over: tuple[End, End] | None
 
 
-def waypoint(spot: Few, name: str) -> str:
-    """A waypoint on a street, as the inside of an object of JSON."""
-    x, y = (round(each * MILLIONTHS) / MILLIONTHS for each in (spot.longitude, spot.latitude))
-    return f'"location": [{x}, {y}], "name": {name}, "distance": {round(spot.metres * 10) / 10}'
+def texts_of(trips: Trips, pairs: Sequence[tuple[Stop, Stop]]) -> list[str | None]:
+    """The texts of the routes between pairs of stops; None where there is no way."""
+    ways = ways_of(trips, pairs)
+    metres = metres_of(trips, pairs, ways)
+    return [None if way is None else text_of(way.weight, each) for way, each in zip(ways, metres)]
+
+
+def ways_of(trips: Trips, pairs: Sequence[tuple[Stop, Stop]]) -> list[Way | None]:
+    """The first of the best ways of each pair; None where there is none."""
+    among = [[(out, into) for out in one.outs for into in other.ins] for one, other in pairs]
+    sources = [out[1] for ends in among for out, _ in ends]
+    targets = [into[1] for ends in among for _, into in ends]
+    known = iter(distances(trips, sources, targets))
+    return [best_way(trips.roads, *pair, ends, known) for pair, ends in zip(pairs, among)]
+
+
+def best_way(
+    roads: Roads, one: Stop, other: Stop, ends: Sequence[tuple[End, End]], known: Iterator[int],
+) -> Way | None:
+    """The first of the best ways between two stops, by the distances of the ends that it may lead
+    over, which are the next ones of `known`."""
+    best: Way | None = None
+    for over, between in zip(ends, known):
+        total = between + over[0][2] + over[1][2]
+        if between >= 0 and (best is None or total < best.weight):
+            best = Way(total, over)
+    along = along_road(roads, one, other) if one.road == other.road else None
+    return Way(along, None) if along is not None and (best is None or along < best.weight) else best
+
+
+def distances(trips: Trips, sources: list[int], targets: list[int]) -> Sequence[int]:
+    """The distances of some pairs of nodes, -1 where there is no walk."""
+    if not sources:
+        return []
+    few = trips.engine.few_distances(sources, targets) if len(sources) <= FEW else None
+    if few is not None:
+        return few
+    return trips.engine.distances(numpy.column_stack([sources, targets])).tolist()
+
+
+def along_road(roads: Roads, one: Stop, other: Stop) -> int | None:
+    """The weight along the road that both stops are on; None if no arc leads that way."""
+    part = other.part - one.part
+    weight = int((roads.forward if part >= 0 else roads.backward)[one.road])
+    return None if weight == NONE and part else round(abs(part) * max(weight, 0))
+
+
+def metres_of(
+    trips: Trips, pairs: Sequence[tuple[Stop, Stop]], ways: Sequence[Way | None],
+) -> list[float]:
+    """The metres of some ways, 0 where there is none."""
+    over = [way.over for way in ways if way is not None and way.over is not None]
+    found: Iterator[tuple[int, int]] = iter(())
+    if over:
+        nodes = numpy.array([(out[1], into[1]) for out, into in over])
+        weights, sums = trips.engine.sums(nodes, trips.roads.nanometres)
+        found = zip(weights.tolist(), sums.tolist())
+    return [0.0 if way is None else length(*pair, way, found) for pair, way in zip(pairs, ways)]
+
+
+def length(one: Stop, other: Stop, way: Way, found: Iterator[tuple[int, int]]) -> float:
+    """The metres of a way. One that leads over nodes has the next weight of `found`, and the
+    nanometres there."""
+    if way.over is None:
+        return abs(other.part - one.part) * one.length
+    out, into = way.over
+    weight, between = next(found)
+    if weight + out[2] + into[2] != way.weight:
+        raise mismatch()
+    first, last = abs(out[0] - one.part) * one.length, abs(into[0] - other.part) * other.length
+    return first + between * NANOMETRE + last
+
+
+def text_of(weight: int, metres: float) -> str:
+    """The text of a route."""
+    duration = weight / MILLISECONDS
+    told = f'"distance": {round(metres, 1)}, "duration": {duration}, "weight": {duration}'
+    leg = f'{{{told}, "summary": "", "steps": []}}'
+    return f'{{{told}, "weight_name": "duration", "legs": [{leg}]}}'
