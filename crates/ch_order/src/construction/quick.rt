@@ -115,6 +115,9 @@ pub fn build_quickly_alone(
     let mut estimates = Estimates::new(alloc, graph.nodes())?;
     let mut construction = begin(alloc, &Open, graph, &[], order, hops, &mut estimates)?;
     for _ in 0..MOST_RANKINGS {
+        if construction.waiting.is_empty() {
+            break;
+        }
         let ranked = construction.rank_stale_alone(graph, &[], order, hops, &mut estimates)?;
         construction = ranked.contract_part(&Open, graph, &[], hops, &mut estimates)?;
     }
@@ -139,6 +142,9 @@ fn contract_quickly<R: Threads + Sync, G: Gate>(
     let mut estimates = Estimates::new(alloc, graph.nodes())?;
     let mut construction = begin(alloc, gate, graph, given, order, hops, &mut estimates)?;
     for _ in 0..MOST_RANKINGS {
+        if construction.waiting.is_empty() {
+            break;
+        }
         let ranked = construction.rank_stale(crew, graph, given, order, hops, &mut estimates)?;
         construction = ranked.contract_part(gate, graph, given, hops, &mut estimates)?;
     }

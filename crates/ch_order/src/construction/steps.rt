@@ -112,7 +112,7 @@ impl Construction {
         requires next { IsReadyFor hops.number self node }
         ensures { IfOk result (λ r. IsTakenWithin hops.number self node r.0) }
     {
-        if self.is_heavy(node) {
+        if !self.is_judged(node) && self.is_heavy(node) {
             return self.take_directly(alloc, node, hops);
         }
         self.take_judged(alloc, node, hops)
@@ -152,7 +152,12 @@ impl Construction {
     pub(super) fn is_settled(&self, node: u32) -> bool
         requires { node < self.now.remaining.nodes }
     {
-        self.room.judged.iter().any(|other| *other == node) || self.is_heavy(node)
+        self.is_judged(node) || self.is_heavy(node)
+    }
+
+    /// Whether a node was judged since the last contraction. Then it has few legs around it.
+    fn is_judged(&self, node: u32) -> bool {
+        self.room.judged.iter().any(|other| *other == node)
     }
 
     /// Whether a node has many pairs of legs, or its neighbours have many legs.
