@@ -4,4 +4,6 @@ pub mod PrioritySteps
 pub mod StepsMade
 pub mod ConstructionCalls
 pub mod KeptPriorities
+pub mod GivenTurns
+pub mod GivenCalls
 pub mod QuickSteps

@@ -1,7 +1,7 @@
 -- The state of a construction whose first nodes are given, and whose others come in any order.
 use Rattle.std.proofs.Common.{◌≡◌, ℕ, ◌+◌, ◌<◌, ◌≤◌, Bool, true, false, List, [], ◌∷◌, ◌++◌, length, refl, sym, ◌∙◌, ap, subst, arith, inl}
-use Rattle.std.proofs.Common.{inr, Contains, Option, Some, None, length-set, get_or-set_same, get_or-set_other}
-use Rattle.std.specs.Prelude.{◌≢◌, All, if◌then◌else◌, is_some, slice_set, ℤ}
+use Rattle.std.proofs.Common.{inr, Contains, Option, Some, None, length-set, get_or-set_same, get_or-set_other, take}
+use Rattle.std.specs.Prelude.{◌≢◌, All, if◌then◌else◌, is_some, slice_index, slice_set, ℤ}
 use Rattle.std.proofs.lemmas.Bool.{true≢false, cases_eq}
 use Rattle.std.proofs.lemmas.List.{length_push, take_all, take-append-le}
 use Rattle.std.proofs.lemmas.List.Elements.{All-push, Contains-append_left, Contains-push, Contains-push_cases}
@@ -15,11 +15,14 @@ use Rattle.ch_hierarchy.specs.Saved.{IsOrderOf}
 use Rattle.ch_hierarchy.proofs.theory.Ordered.{contains_or_not}
 use Rattle.ch_contract.specs.declared.measure.OrderBy.{OrderBy}
 use Rattle.ch_contract.specs.Legs.{Legs, AreLegsWithin}
+use Rattle.ch_contract.specs.Begun.{AreDifferentNodes}
+use Rattle.ch_contract.specs.Contraction.{count_touching}
 use Rattle.ch_contract.specs.Enough.{ContractsWithin}
 use Rattle.ch_contract.proofs.theory.Enough.{hierarchy_within, pairs_within}
 use Rattle.ch_contract.proofs.theory.EnoughKept.{hierarchies_with_enough_kept}
 use Rattle.ch_contract.proofs.theory.GivenNodes.{all_others, no_other}
-use Rattle.ch_contract.proofs.theory.OrderSteps.{then_legs}
+use Rattle.ch_contract.proofs.theory.OneInTurn.{not_before, one_map}
+use Rattle.ch_contract.proofs.theory.OrderSteps.{then_before, then_legs}
 use Rattle.ch_order.specs.Progress.{Progress, IsContraction, IsContractionBy, IsNext, AreAll}
 use Rattle.ch_order.specs.Priorities.{IsRanked}
 use Rattle.ch_contract.specs.Remaining.{legs_of}
@@ -28,8 +31,10 @@ use Rattle.ch_order.specs.Construction.{IsJudging, IsReadyFor, IsSized, IsTaken,
 use Rattle.ch_contract.specs.declared.room.Room.{Room}
 use Rattle.ch_contract.specs.Rooms.{IsReady}
 use Rattle.ch_order.proofs.ConstructionCalls.{taken_step}
-use Rattle.ch_order.specs.Quick.{AreQueued, HasKey, IsRekeyed, IsHierarchyAfter, IsHierarchyAfterSome, IsAfterAny}
-use Rattle.ch_order.specs.Quick.{IsBegunWith, IsPartOf, IsTakenWithin, IsUnderWay}
+use Rattle.ch_order.specs.Quick.{AreQueued, HasKey, IsRekeyed, IsHierarchyAfter, IsHierarchyAfterSmall, IsAfterAny}
+use Rattle.ch_order.specs.Quick.{IsBegunWith, IsTakenWithin, IsUnderWay}
+use Rattle.ch_order.specs.declared.construction.steps.TheConstants.{MOST_GIVEN_LEGS}
+use Rattle.ch_order.proofs.GivenTurns.{turns_along, turns_skip, turns_take, turns_within}
 use Rattle.ch_order.specs.Steps.{IsAfterGiven, IsAfterSteps, IsAfterStepsBy}
 use Rattle.ch_order.proofs.PrioritySteps.{key_within}
 use Rattle.ch_order.proofs.StepsMade.{steps_rekeyed, steps_more, legs_within, depth_within, count_fewer, all_steps, all_levelled}
@@ -38,14 +43,14 @@ use Rattle.ch_order.proofs.StepsMade.{steps_rekeyed, steps_more, legs_within, de
 pub after_kept : (g : Network) (h : ℕ) (given : List ℕ) (H : LevelsAndLegs) → IsWithinLimits g → IsHierarchyAfter g h given H → IsKept g H
 after_kept g h given H limits is = hierarchies_with_enough_kept g h H is.0 is.1 limits (hierarchy_within g h H is.0 is.1 limits is.2)
 
--- so is one that begins with some of the given nodes
-pub after_some_kept : (g : Network) (h : ℕ) (given : List ℕ) (H : LevelsAndLegs) → IsWithinLimits g → IsHierarchyAfterSome g h given H →
+-- so is one that begins with the given nodes that are small
+pub after_small_kept : (g : Network) (h : ℕ) (given : List ℕ) (H : LevelsAndLegs) → IsWithinLimits g → IsHierarchyAfterSmall g h given H →
     IsKept g H
-after_some_kept g h given H limits is = after_kept g h is.0 H limits is.2
+after_small_kept g h given H limits is = after_kept g h is.0 H limits (is.1, is.2, is.3, is.4)
 
--- some of no nodes are none
-pub after_none : (g : Network) (h : ℕ) (H : LevelsAndLegs) → IsHierarchyAfterSome g h [] H → IsHierarchyAfter g h [] H
-after_none g h H is = subst (λ l. IsHierarchyAfter g h l H) is.1 is.2
+-- if no node is given, none comes first
+pub after_none : (g : Network) (h : ℕ) (H : LevelsAndLegs) → IsHierarchyAfterSmall g h [] H → IsHierarchyAfter g h [] H
+after_none g h H is = subst (λ l. IsHierarchyAfter g h l H) is.5 (is.1, is.2, is.3, is.4)
 
 -- contractions with one bound are contractions with this or a lesser one
 pub steps_within : (g : Network) (h : ℕ) (order : List ℕ) (L : ℕ → Legs) (p : Progress) → 1 ≤ h → IsAfterSteps g h order L p →
@@ -134,27 +139,36 @@ rekeyed_ranked by n h nodes p q have r = record {
 pub next_key : (keys : List (Option ℤ)) (v : ℕ) → IsNext keys v → HasKey keys v
 next_key keys v n = (n.priority, n.has)
 
--- the nodes that remain are put into the queue after the given ones
-pub any_at_start : (g : Network) (h : ℕ) (given others : List ℕ) (p q : Progress) → 1 ≤ h →
-    IsOrderOf g.nodes (given ++ others) → IsAfterGiven g h given p → AreQueued others p q → IsAfterAny g h given q
-any_at_start g h given others p q most is u r = record {
-  order = given;
-  L = u.L;
-  steps = subst (IsAfterStepsBy (ContractsWithin g.nodes h) g given u.L) (sym r.rest)
-      (steps_rekeyed (ContractsWithin g.nodes h) g given u.L p q.keys (steps_within g h given u.L p most u.after));
-  from = omega arith;
-  first = take_all (length given) given (omega arith);
-  waiting = record {
-    size = r.keys.size ∙ u.keys.0;
-    left = λ x lt away. let k = r.keys.anew x (all_others given others g.nodes is x lt away) in (k.0, k.1);
-    taken = λ x has. r.keys.kept x (no_other given others g.nodes is x has) ∙ u.keys.1 x;
-  };
-}
+-- all nodes are put into the queue before the first one is contracted
+pub any_at_start : (g : Network) (h : ℕ) (nodes : List ℕ) (p q : Progress) → 1 ≤ h → IsOrderOf g.nodes nodes →
+    IsAfterGiven g h [] p → AreQueued nodes p q → (n : IsAfterAny g h [] q) × (length n.small ≡ 0)
+any_at_start g h nodes p q most is u r = (
+  record {
+    order = [];
+    L = u.L;
+    small = [];
+    steps = subst (IsAfterStepsBy (ContractsWithin g.nodes h) g [] u.L) (sym r.rest)
+        (steps_rekeyed (ContractsWithin g.nodes h) g [] u.L p q.keys (steps_within g h [] u.L p most u.after));
+    from = omega arith;
+    first = refl;
+    part = refl;
+    waiting = record {
+      size = r.keys.size ∙ u.keys.0;
+      left = λ x lt away. let k = r.keys.anew x (all_others [] nodes g.nodes is x lt away) in (k.0, k.1);
+      taken = λ x has. r.keys.kept x (no_other [] nodes g.nodes is x has) ∙ u.keys.1 x;
+    };
+  },
+  refl,
+)
 
 module _ (g : Network) (h : ℕ) (given : List ℕ) (p : Progress) (u : IsAfterAny g h given p) where
   -- the remaining legs are within the limits
   pub any_within : AreLegsWithin g.nodes p.legs
   any_within = legs_within (ContractsWithin g.nodes h) g u.order u.L p u.steps (pairs_within g.nodes h)
+
+  -- the legs after the last step
+  legs_now : u.L (length u.order) ≡ p.legs
+  legs_now = one_map (u.L (length u.order)) p.legs u.steps.legs
 
   -- a depth is at most the number of contracted nodes
   pub any_depth : (x : ℕ) → p.depth x ≤ p.contracted
@@ -165,10 +179,12 @@ module _ (g : Network) (h : ℕ) (given : List ℕ) (p : Progress) (u : IsAfterA
   any_rekeyed q r = record {
     order = u.order;
     L = u.L;
+    small = u.small;
     steps = subst (IsAfterStepsBy (ContractsWithin g.nodes h) g u.order u.L) (sym r.rest)
         (steps_rekeyed (ContractsWithin g.nodes h) g u.order u.L p q.keys u.steps);
     from = u.from;
     first = u.first;
+    part = u.part;
     waiting = record {
       size = r.size ∙ u.waiting.size;
       left = λ x lt away. key_stays p q x r (u.waiting.left x lt away);
@@ -196,9 +212,12 @@ module _ (g : Network) (h : ℕ) (given : List ℕ) (p : Progress) (u : IsAfterA
       any_next = record {
         order = u.order ++ v ∷ [];
         L = then_legs (length u.order) u.L q.legs;
+        small = u.small;
         steps = steps_more (ContractsWithin g.nodes h) g u.order u.L p u.steps v any_node left q s;
         from = let more = length_push u.order v in let le = u.from in omega arith;
-        first = take-append-le (length given) u.order (v ∷ []) u.from ∙ u.first;
+        first = take-append-le (length u.small) u.order (v ∷ []) u.from ∙ u.first;
+        part = turns_along g.nodes u.L (then_legs (length u.order) u.L q.legs) 0 given u.small
+            (λ k le. then_before (length u.order) u.L q.legs k (let from = u.from in omega arith)) u.part;
         waiting = record {
           size = size ∙ u.waiting.size;
           left = λ x lt away.
@@ -214,24 +233,57 @@ module _ (g : Network) (h : ℕ) (given : List ℕ) (p : Progress) (u : IsAfterA
         };
       }
 
-      -- if no other nodes than the given ones were contracted, the node is the next given one
-      pub any_given_next : p.contracted ≡ length given → IsAfterAny g h (given ++ v ∷ []) q
+      -- if no others than given nodes were contracted, and few legs touch the node, it is the next given one
+      pub any_given_next : p.contracted ≡ length u.small → count_touching g.nodes p.legs v ≤ MOST_GIVEN_LEGS →
+          (n : IsAfterAny g h (given ++ v ∷ []) q) × (length n.small ≡ length u.small + 1)
       unfolding any_next
-      any_given_next all =
+      any_given_next all fits =
           let n = any_next in
-          let count : length u.order ≡ length given = sym u.steps.contracted ∙ all in
-          let is : u.order ≡ given = sym (take_all (length given) u.order (omega (arith, count))) ∙ u.first in
+          let count : length u.order ≡ length u.small = sym u.steps.contracted ∙ all in
+          let is : u.order ≡ u.small = sym (take_all (length u.small) u.order (omega (arith, count))) ∙ u.first in
           let long = length_push u.order v in
-          let wide = length_push given v in
-          record {
-            order = n.order;
-            L = n.L;
-            steps = n.steps;
-            from = omega (arith, count, long, wide);
-            first = take_all (length (given ++ v ∷ [])) (u.order ++ v ∷ []) (omega (arith, count, long, wide))
-                ∙ ap (λ l. l ++ v ∷ []) is;
-            waiting = n.waiting;
-          }
+          let wide = length_push u.small v in (
+            record {
+              order = n.order;
+              L = n.L;
+              small = u.small ++ v ∷ [];
+              steps = n.steps;
+              from = omega (arith, count, long, wide);
+              first = take_all (length (u.small ++ v ∷ [])) (u.order ++ v ∷ []) (omega (arith, count, long, wide))
+                  ∙ ap (λ l. l ++ v ∷ []) is;
+              part = turns_take g.nodes n.L 0 (length u.order) given u.small v n.part (omega (arith, count))
+                  (subst (λ (M : Legs). count_touching g.nodes M v ≤ MOST_GIVEN_LEGS)
+                  (sym (then_before (length u.order) u.L q.legs (length u.order) (omega arith) ∙ legs_now)) fits);
+              waiting = n.waiting;
+            },
+            wide,
+          )
+
+  -- if no others than given nodes were contracted, a given node that is not among them waits, since the given nodes differ
+  pub any_given_key : p.contracted ≡ length u.small → (v : ℕ) → v < g.nodes → (Contains given v → ⊥) → HasKey p.keys v
+  any_given_key all v lt away =
+      let count : length u.order ≡ length u.small = sym u.steps.contracted ∙ all in
+      let is : u.order ≡ u.small = sym (take_all (length u.small) u.order (omega (arith, count))) ∙ u.first in
+      u.waiting.left v lt (λ has. away (turns_within g.nodes u.L 0 given u.small v u.part (subst (λ l. Contains l v) is has)))
+
+  -- if no others than given nodes were contracted, and many legs touch a node, it may wait in its turn
+  pub any_given_skip : p.contracted ≡ length u.small → (v : ℕ) → MOST_GIVEN_LEGS < count_touching g.nodes p.legs v →
+      (n : IsAfterAny g h (given ++ v ∷ []) p) × (length n.small ≡ length u.small)
+  any_given_skip all v large =
+      let count : length u.order ≡ length u.small = sym u.steps.contracted ∙ all in (
+        record {
+          order = u.order;
+          L = u.L;
+          small = u.small;
+          steps = u.steps;
+          from = u.from;
+          first = u.first;
+          part = turns_skip g.nodes u.L 0 (length u.order) given u.small v u.part (omega (arith, count))
+              (subst (λ (M : Legs). MOST_GIVEN_LEGS < count_touching g.nodes M v) (sym legs_now) large);
+          waiting = u.waiting;
+        },
+        refl,
+      )
 
   module _ (none : HasNone p.keys) where
     -- when no node has a key, all are contracted
@@ -241,9 +293,10 @@ module _ (g : Network) (h : ℕ) (given : List ℕ) (p : Progress) (u : IsAfterA
       | inr away ↦ let k = u.waiting.left x lt away in absurd (none-some k.0 (sym (none x) ∙ k.1))
     ]
 
-    -- then it is a hierarchy that begins with the given nodes
-    pub any_at_end : (H : LevelsAndLegs) → AreAll g.nodes p H → IsHierarchyAfter g h given H
-    any_at_end H all = (u.order, u.L, all_steps (ContractsWithin g.nodes h) g u.order u.L p u.steps whole H all, u.first)
+    -- then it is a hierarchy that begins with the given nodes that are small
+    pub any_at_end : (H : LevelsAndLegs) → AreAll g.nodes p H → IsHierarchyAfterSmall g h given H
+    any_at_end H all =
+        (u.small, u.order, u.L, all_steps (ContractsWithin g.nodes h) g u.order u.L p u.steps whole H all, u.first, u.part)
 
     -- and it is levelled
     pub any_levelled : g.nodes ≤ MOST_NODES → (H : LevelsAndLegs) → AreAll g.nodes p H → IsLevelled H
@@ -272,18 +325,6 @@ rekeyed_step IsStep p v q r s k = subst (IsContractionBy IsStep p v) (sym k.rest
   rows = s.rows;
   depths = s.depths;
 })
-
--- some of these nodes are some of one node more
-part_skip : (some nodes : List ℕ) (v : ℕ) → IsPartOf some nodes → IsPartOf some (nodes ++ v ∷ [])
-part_skip some [] v p = inl p
-part_skip some (w ∷ nodes) v (inl p) = inl (part_skip some nodes v p)
-part_skip some (w ∷ nodes) v (inr p) = inr (p.0, p.1, part_skip p.0 nodes v p.2)
-
--- with the last node they are some of the nodes too
-part_push : (some nodes : List ℕ) (v : ℕ) → IsPartOf some nodes → IsPartOf (some ++ v ∷ []) (nodes ++ v ∷ [])
-part_push some [] v p = inr ([], ap (λ (l : List ℕ). l ++ v ∷ []) p, refl)
-part_push some (w ∷ nodes) v (inl p) = inl (part_push some nodes v p)
-part_push some (w ∷ nodes) v (inr p) = inr (p.0 ++ v ∷ [], ap (λ (l : List ℕ). l ++ v ∷ []) p.1, part_push p.0 nodes v p.2)
 
 -- the node is taken out of the queue, and the others stay in it
 module _ (keys after : List (Option ℤ)) (v : ℕ) (lt : v < length keys) (is : after ≡ slice_set keys v None) where
@@ -343,9 +384,7 @@ module _ (g : Network) (h : ℕ) (given : List ℕ) (c : Construction) where
     under_way_rekeyed d sizes nodes keyed ready = record {
       sizes = sizes;
       nodes = nodes ∙ i.nodes;
-      some = i.some;
-      part = i.part;
-      after = any_rekeyed g h i.some (progress_of c) i.after (progress_of d) keyed;
+      after = any_rekeyed g h given (progress_of c) i.after (progress_of d) keyed;
       ready = ready;
     }
 
@@ -354,10 +393,10 @@ module _ (g : Network) (h : ℕ) (given : List ℕ) (c : Construction) where
       pub ready_for : IsReadyFor h c v
       ready_for = record {
         sizes = i.sizes;
-        limits = subst (λ n. AreLegsWithin n (legs_of c.remaining)) (sym i.nodes) (any_within g h i.some (progress_of c) i.after);
-        node = omega (arith, i.nodes, any_node g h i.some (progress_of c) i.after v k);
-        count = omega (arith, i.nodes, any_count g h i.some (progress_of c) i.after v k);
-        depth = any_depth g h i.some (progress_of c) i.after v;
+        limits = subst (λ n. AreLegsWithin n (legs_of c.remaining)) (sym i.nodes) (any_within g h given (progress_of c) i.after);
+        node = omega (arith, i.nodes, any_node g h given (progress_of c) i.after v k);
+        count = omega (arith, i.nodes, any_count g h given (progress_of c) i.after v k);
+        depth = any_depth g h given (progress_of c) i.after v;
         ready = i.ready;
       }
 
@@ -371,37 +410,35 @@ module _ (g : Network) (h : ℕ) (given : List ℕ) (c : Construction) where
       under_way_next d t = record {
         sizes = t.sizes;
         nodes = t.nodes ∙ i.nodes;
-        some = i.some;
-        part = i.part;
-        after = any_next g h i.some (progress_of c) i.after v k (progress_of d) (step_within d t) t.size t.gone t.same;
+        after = any_next g h given (progress_of c) i.after v k (progress_of d) (step_within d t) t.size t.gone t.same;
         ready = t.ready;
       }
 
-      -- if no others than the given nodes were contracted, it is the next given one
-      pub begun_next : c.contracted ≡ length i.some → (d : Construction) → IsTakenWithin h c v d → IsBegunWith g h (given ++ v ∷ []) d
-      begun_next all d t = (
-        record {
-          sizes = t.sizes;
-          nodes = t.nodes ∙ i.nodes;
-          some = i.some ++ v ∷ [];
-          part = part_push i.some given v i.part;
-          after = any_given_next g h i.some (progress_of c) i.after v k (progress_of d) (step_within d t) t.size t.gone t.same all;
-          ready = t.ready;
-        },
-        t.step.contracted ∙ omega (arith, all, length_push i.some v),
+      -- if no others than given nodes were contracted, and few legs touch it, it is the next given one
+      pub begun_next : c.contracted ≡ length i.after.small →
+          count_touching c.remaining.nodes (legs_of c.remaining) v ≤ MOST_GIVEN_LEGS → (d : Construction) → IsTakenWithin h c v d →
+          IsBegunWith g h (given ++ v ∷ []) d
+      begun_next all fits d t =
+          let n = any_given_next g h given (progress_of c) i.after v k (progress_of d) (step_within d t) t.size t.gone t.same all
+          (subst (λ n. count_touching n (legs_of c.remaining) v ≤ MOST_GIVEN_LEGS) i.nodes fits) in (
+            record { sizes = t.sizes; nodes = t.nodes ∙ i.nodes; after = n.0; ready = t.ready },
+            t.step.contracted ∙ omega (arith, all, n.1),
+          )
+
+  -- a given node waits in its turn if many legs touch it
+  pub begun_skip : (v : ℕ) → (b : IsBegunWith g h given c) →
+      MOST_GIVEN_LEGS < count_touching c.remaining.nodes (legs_of c.remaining) v → IsBegunWith g h (given ++ v ∷ []) c
+  begun_skip v b large =
+      let i = b.0 in
+      let n = any_given_skip g h given (progress_of c) i.after b.1 v
+      (subst (λ n. MOST_GIVEN_LEGS < count_touching n (legs_of c.remaining) v) i.nodes large) in (
+        record { sizes = i.sizes; nodes = i.nodes; after = n.0; ready = i.ready },
+        b.1 ∙ sym n.1,
       )
 
-  -- a given node may wait
-  pub begun_skip : (v : ℕ) → IsBegunWith g h given c → IsBegunWith g h (given ++ v ∷ []) c
-  begun_skip v b =
-      let i = b.0 in (
-        record {
-          sizes = i.sizes;
-          nodes = i.nodes;
-          some = i.some;
-          part = part_skip i.some given v i.part;
-          after = i.after;
-          ready = i.ready;
-        },
-        b.1,
-      )
+-- a given node is in the queue until its turn, because the given nodes differ
+pub given_key : (g : Network) (h : ℕ) (given : List ℕ) (place : ℕ) (c : Construction) → AreDifferentNodes g given →
+    place < length given → IsBegunWith g h (take place given) c → HasKey c.waiting (slice_index given place)
+given_key g h given place c nodes lt b =
+    any_given_key g h (take place given) (progress_of c) b.0.after b.1 (slice_index given place) (nodes.0 place 0 lt)
+    (not_before place given lt nodes.1)

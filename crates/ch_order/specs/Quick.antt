@@ -1,13 +1,15 @@
 -- Orders of contraction that begin with given nodes and go on in any way, for hierarchies that are built in little time.
-use Rattle.std.specs.Prelude.{◌≡◌, ◌≢◌, ◌⊎◌, ◌<◌, ◌≤◌, ℕ, List, [], ◌∷◌, length, take, is_some, Contains, Option, Some, None, ℤ}
+use Rattle.std.specs.Prelude.{◌≡◌, ◌≢◌, ◌⊎◌, ◌+◌, ◌<◌, ◌≤◌, ℕ, List, [], ◌∷◌, length, take, is_some, Contains, Option, Some, None, ℤ}
 use Rattle.ch_graph.specs.Graph.{Network}
 use Rattle.ch_queue.specs.Queue.{key_of}
 use Rattle.ch_hierarchy.specs.Hierarchy.{LevelsAndLegs}
 use Rattle.ch_contract.specs.Legs.{Legs}
+use Rattle.ch_contract.specs.Contraction.{count_touching}
 use Rattle.ch_contract.specs.Enough.{ContractsWithin}
 use Rattle.ch_contract.specs.Built.{IsHierarchyIn}
 use Rattle.ch_order.specs.Progress.{Progress, IsContractionBy}
 use Rattle.ch_order.specs.declared.construction.Construction.{Construction}
+use Rattle.ch_order.specs.declared.construction.steps.TheConstants.{MOST_GIVEN_LEGS}
 use Rattle.ch_order.specs.Construction.{IsSized, IsJudging, progress_of}
 use Rattle.ch_order.specs.Steps.{IsAfterStepsBy}
 use Rattle.ch_order.specs.Priorities.{AreRefreshed}
@@ -18,14 +20,20 @@ abbrev pub IsHierarchyAfter : Network → ℕ → List ℕ → LevelsAndLegs →
 IsHierarchyAfter g h given H =
     (order : List ℕ) × (L : ℕ → Legs) × IsHierarchyIn (ContractsWithin g.nodes h) g H order L × (take (length given) order ≡ given)
 
--- these are some of these nodes, in the same order
-abbrev pub IsPartOf : List ℕ → List ℕ → Type 0
-IsPartOf some [] = some ≡ []
-IsPartOf some (v ∷ nodes) = IsPartOf some nodes ⊎ ((rest : List ℕ) × (some ≡ v ∷ rest) × IsPartOf rest nodes)
+-- the given nodes have their turns after i steps, and `taken` are those of them that are contracted. A node is contracted in its turn
+-- exactly if no more legs touch it then than this constant says. L k are the legs after k steps
+abbrev pub AreTakenIfSmall : ℕ → (ℕ → Legs) → ℕ → List ℕ → List ℕ → Type 0
+AreTakenIfSmall n L i [] taken = taken ≡ []
+AreTakenIfSmall n L i (v ∷ given) taken =
+    ((count_touching n (L i) v ≤ MOST_GIVEN_LEGS) × (rest : List ℕ) × (taken ≡ v ∷ rest) × AreTakenIfSmall n L (i + 1) given rest)
+    ⊎ ((MOST_GIVEN_LEGS < count_touching n (L i) v) × AreTakenIfSmall n L i given taken)
 
--- a hierarchy of a graph in which some of the given nodes are contracted first, as given, and then the others in any order
-abbrev pub IsHierarchyAfterSome : Network → ℕ → List ℕ → LevelsAndLegs → Type 0
-IsHierarchyAfterSome g h given H = (some : List ℕ) × IsPartOf some given × IsHierarchyAfter g h some H
+-- a hierarchy of a graph whose given nodes are contracted first, as given, but for those that too many legs touch when their turn
+-- comes. These are contracted later, with the others, in any order
+abbrev pub IsHierarchyAfterSmall : Network → ℕ → List ℕ → LevelsAndLegs → Type 0
+IsHierarchyAfterSmall g h given H =
+    (taken : List ℕ) × (order : List ℕ) × (L : ℕ → Legs) × IsHierarchyIn (ContractsWithin g.nodes h) g H order L
+    × (take (length taken) order ≡ taken) × AreTakenIfSmall g.nodes L 0 given taken
 
 -- the node has a key in the queue
 abbrev pub HasKey : List (Option ℤ) → ℕ → Type 0
@@ -37,28 +45,28 @@ pub record IsWaiting (n : ℕ) (order : List ℕ) (keys : List (Option ℤ)) : T
   pub left : (x : ℕ) → x < n → (Contains order x → ⊥) → HasKey keys x
   pub taken : (x : ℕ) → Contains order x → key_of keys x ≡ None
 
--- the state after some steps, of which the first are given, whatever the keys of the remaining nodes are
+-- the state after some steps, whatever the keys of the remaining nodes are. The first steps contract the given nodes, but for those
+-- that too many legs touched when their turn came
 pub record IsAfterAny (g : Network) (h : ℕ) (given : List ℕ) (p : Progress) : Type 0 where
   pub order : List ℕ
   pub L : ℕ → Legs
+  pub small : List ℕ
   pub steps : IsAfterStepsBy (ContractsWithin g.nodes h) g order L p
-  pub from : length given ≤ length order
-  pub first : take (length given) order ≡ given
+  pub from : length small ≤ length order
+  pub first : take (length small) order ≡ small
+  pub part : AreTakenIfSmall g.nodes L 0 given small
   pub waiting : IsWaiting g.nodes order p.keys
 
--- the construction of a hierarchy of this graph, whose first nodes are some of the given ones, is under way, and each remaining
--- node waits
+-- the construction of a hierarchy of this graph, whose first nodes are given, is under way, and each remaining node waits
 pub record IsUnderWay (g : Network) (h : ℕ) (given : List ℕ) (c : Construction) : Type 0 where
   pub sizes : IsSized c
   pub nodes : c.remaining.nodes ≡ g.nodes
-  pub some : List ℕ
-  pub part : IsPartOf some given
-  pub after : IsAfterAny g h some (progress_of c)
+  pub after : IsAfterAny g h given (progress_of c)
   pub ready : IsJudging h c
 
--- some of the given nodes are contracted, in their order, and no others
+-- the given nodes had their turns, and no others are contracted
 abbrev pub IsBegunWith : Network → ℕ → List ℕ → Construction → Type 0
-IsBegunWith g h given c = (u : IsUnderWay g h given c) × (c.contracted ≡ length u.some)
+IsBegunWith g h given c = (u : IsUnderWay g h given c) × (c.contracted ≡ length u.after.small)
 
 -- v is contracted and out of the queue. Its witnesses have at most h legs, or at most some lesser number
 pub record IsTakenWithin (h : ℕ) (before : Construction) (v : ℕ) (after : Construction) : Type 0 where

@@ -2,8 +2,9 @@
 //! time to find.
 ghost use Rattle.std.specs.Prelude.{◌≡◌, ℕ, ◌^◌, ◌<◌, ◌≤◌, ◌++◌, ◌∷◌, [], if◌then◌else◌, All, Err, IfOk, IsTrue, OnOk, length, take};
 ghost use Rattle.ch_graph.specs.Graph.{IsWithinLimits};
+ghost use Rattle.ch_contract.specs.Begun.{AreDifferentNodes};
 ghost use Rattle.ch_contract.specs.Like.{given_count as count_of};
-ghost use Rattle.ch_order.specs.Quick.{IsHierarchyAfter, IsHierarchyAfterSome, IsUnderWay, HaveKeys};
+ghost use Rattle.ch_order.specs.Quick.{IsHierarchyAfter, IsHierarchyAfterSmall, IsUnderWay, HaveKeys};
 ghost use Rattle.ch_order.specs.declared.construction.like.OrderError.TheVariants as OrderError;
 ghost use Rattle.ch_hierarchy.specs.Kept.{IsKept};
 ghost use Rattle.ch_hierarchy.specs.Saved.{IsOrderOf};
@@ -41,9 +42,9 @@ const MOST_RANKINGS: u32 = 16;
 const MOST_JUDGED: u32 = 16;
 
 /// Builds a contraction hierarchy of a graph that begins like [`build_like`](crate::build_like): all nodes but the last
-/// `fresh` per cent come in the given order, except for those that have many legs when their turn comes. These wait for the
-/// fresh part, because a bad order would join all nodes around the given ones by legs. It is for answers that do not depend
-/// on the order, because it takes less time to find the order of the fresh nodes.
+/// `fresh` per cent come in the given order, except for those that more than 16 legs touch when their turn comes. These wait
+/// for the fresh part, because a bad order would join all nodes around the given ones by legs. It is for answers that do not
+/// depend on the order, because it takes less time to find the order of the fresh nodes.
 ///
 /// When the last given node is contracted, chains are contracted first: nodes with at most two neighbours, for which no
 /// witness is looked for but a leg. Then the other fresh nodes get priorities by depth, which workers share. To take less
@@ -63,7 +64,7 @@ pub fn build_like_quickly<R: Threads + Sync, G: Gate>(
     fresh: Percent,
     hops: HopBound,
 ) -> Result<Hierarchy, OrderError>
-    ensures hierarchy { IfOk result (IsHierarchyAfterSome graph.now hops.number (take (count_of graph.now.nodes fresh.number) given.now)) }
+    ensures hierarchy { IfOk result (IsHierarchyAfterSmall graph.now hops.number (take (count_of graph.now.nodes fresh.number) given.now)) }
     ensures kept { IfOk result (IsKept graph.now) }
     ensures order { IfOk result (λ _. IsOrderOf graph.now.nodes given.now) }
     ensures refused { result ≡ Err OrderError.Order → IsOrderOf graph.now.nodes given.now → ⊥ }
@@ -114,14 +115,17 @@ pub fn build_quickly_alone(
     let mut estimates = Estimates::new(alloc, graph.nodes())?;
     let mut construction = begin(alloc, &Open, graph, &[], order, hops, &mut estimates)?;
     for _ in 0..MOST_RANKINGS {
+        if construction.waiting.is_empty() {
+            break;
+        }
         let ranked = construction.rank_stale_alone(graph, &[], order, hops, &mut estimates)?;
         construction = ranked.contract_part(&Open, graph, &[], hops, &mut estimates)?;
     }
     construction.finish_in_turn(&Open, graph, &[], hops, &mut estimates)
 }
 
-/// Builds a contraction hierarchy of a graph. The first nodes of the order are given: those of them that have few legs when
-/// their turn comes are contracted first, as they come, and then the others. The order has each node once.
+/// Builds a contraction hierarchy of a graph. The given nodes that have few legs when their turn comes are contracted first,
+/// as they come, and then the others. The order has each node once.
 fn contract_quickly<R: Threads + Sync, G: Gate>(
     crew: &Crew<'_, R, G>,
     graph: &Graph,
@@ -130,13 +134,17 @@ fn contract_quickly<R: Threads + Sync, G: Gate>(
     hops: HopBound,
 ) -> Result<Hierarchy, AllocError>
     requires order { IsOrderOf graph.now.nodes order.now }
-    ensures { IfOk result (IsHierarchyAfterSome graph.now hops.number given.now) }
+    requires given { AreDifferentNodes graph.now given.now }
+    ensures { IfOk result (IsHierarchyAfterSmall graph.now hops.number given.now) }
 {
     let gate = crew.gate;
     let alloc = crew.alloc;
     let mut estimates = Estimates::new(alloc, graph.nodes())?;
     let mut construction = begin(alloc, gate, graph, given, order, hops, &mut estimates)?;
     for _ in 0..MOST_RANKINGS {
+        if construction.waiting.is_empty() {
+            break;
+        }
         let ranked = construction.rank_stale(crew, graph, given, order, hops, &mut estimates)?;
         construction = ranked.contract_part(gate, graph, given, hops, &mut estimates)?;
     }
@@ -155,6 +163,7 @@ fn begin<G: Gate>(
     estimates: &mut Estimates,
 ) -> Result<Construction, AllocError>
     requires order { IsOrderOf graph.now.nodes order.now }
+    requires given { AreDifferentNodes graph.now given.now }
     ensures { IfOk result (IsUnderWay graph.now hops.number given.now) }
 {
     let opened = Construction::after(alloc, gate, graph, &[], hops)?;
@@ -368,7 +377,7 @@ impl Construction {
         estimates: &mut Estimates,
     ) -> Result<Hierarchy, AllocError>
         requires under_way { IsUnderWay graph.now hops.number given.now self }
-        ensures { IfOk result (IsHierarchyAfterSome graph.now hops.number given.now) }
+        ensures { IfOk result (IsHierarchyAfterSmall graph.now hops.number given.now) }
     {
         let all = self.contract_until(gate, graph, given, 0, hops, estimates)?;
         all.finish()

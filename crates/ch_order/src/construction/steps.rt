@@ -1,6 +1,9 @@
 //! Contractions in any order: of given nodes, and of the next node of the queue.
-ghost use Rattle.std.specs.Prelude.{◌≡◌, ◌+◌, ◌<◌, IfOk, IsTrue, length, take};
-ghost use Rattle.ch_order.specs.Quick.{HasKey, IsBegunWith, IsTakenWithin};
+ghost use Rattle.std.specs.Prelude.{◌≡◌, ◌+◌, ◌<◌, ◌≤◌, false, IfOk, IsTrue, length, take};
+ghost use Rattle.ch_contract.specs.Begun.{AreDifferentNodes};
+ghost use Rattle.ch_contract.specs.Contraction.{count_touching};
+ghost use Rattle.ch_contract.specs.Remaining.{legs_of};
+ghost use Rattle.ch_order.specs.Quick.{IsBegunWith, IsTakenWithin};
 ghost use Rattle.ch_order.specs.Construction.{IsReadyFor};
 
 use super::Construction;
@@ -20,9 +23,9 @@ const MOST_PAIRS: u64 = 1 << 14;
 /// witnesses looks at them more than once.
 const MOST_AROUND: u64 = 1 << 15;
 
-/// The most legs that touch a given node that is contracted when its turn comes. In a good order of a road network no node
-/// has so many.
-const MOST_GIVEN_LEGS: u64 = 128;
+/// The most legs that touch a given node that is contracted when its turn comes. In a good order few nodes of the fresh part
+/// have more, and hardly any before. In a bad one the legs of those that have more would soon join most nodes around them.
+const MOST_GIVEN_LEGS: u64 = 16;
 
 /// Returns the bound of witnesses of one leg.
 fn direct() -> HopBound
@@ -42,6 +45,7 @@ impl Construction {
         hops: HopBound,
     ) -> Result<Construction, AllocError>
         requires begun { IsBegunWith graph.now hops.number (take 0 given.now) self }
+        requires given { AreDifferentNodes graph.now given.now }
         ensures { IfOk result (IsBegunWith graph.now hops.number given.now) }
     {
         let mut construction = self;
@@ -63,6 +67,7 @@ impl Construction {
     ) -> Result<Construction, AllocError>
         requires begun { IsBegunWith graph.now hops.number (take place given.now) self }
         requires place { place < length given.now }
+        requires given { AreDifferentNodes graph.now given.now }
         ensures { IfOk result (IsBegunWith graph.now hops.number (take (place + 1) given.now)) }
     {
         let node = given[place];
@@ -73,12 +78,13 @@ impl Construction {
         Ok(taken)
     }
 
-    /// Whether a node is in the queue and few legs touch it.
+    /// Whether few legs touch a node.
     fn is_small(&self, node: u32) -> bool
-        requires sizes { self.now.remaining.nodes ≡ length self.now.waiting }
-        ensures { IsTrue result → HasKey self.now.waiting node }
+        requires { node < self.now.remaining.nodes }
+        ensures small { IsTrue result → count_touching self.now.remaining.nodes (legs_of self.now.remaining) node ≤ MOST_GIVEN_LEGS }
+        ensures large { result ≡ false → MOST_GIVEN_LEGS < count_touching self.now.remaining.nodes (legs_of self.now.remaining) node }
     {
-        self.waits(node) && self.remaining.count_touching(node) <= MOST_GIVEN_LEGS
+        self.remaining.count_touching(node) <= MOST_GIVEN_LEGS
     }
 
     /// Contracts a node of the queue, and gives its neighbours keys by estimates.
@@ -106,7 +112,7 @@ impl Construction {
         requires next { IsReadyFor hops.number self node }
         ensures { IfOk result (λ r. IsTakenWithin hops.number self node r.0) }
     {
-        if self.is_heavy(node) {
+        if !self.is_judged(node) && self.is_heavy(node) {
             return self.take_directly(alloc, node, hops);
         }
         self.take_judged(alloc, node, hops)
@@ -146,7 +152,12 @@ impl Construction {
     pub(super) fn is_settled(&self, node: u32) -> bool
         requires { node < self.now.remaining.nodes }
     {
-        self.room.judged.iter().any(|other| *other == node) || self.is_heavy(node)
+        self.is_judged(node) || self.is_heavy(node)
+    }
+
+    /// Whether a node was judged since the last contraction. Then it has few legs around it.
+    fn is_judged(&self, node: u32) -> bool {
+        self.room.judged.iter().any(|other| *other == node)
     }
 
     /// Whether a node has many pairs of legs, or its neighbours have many legs.

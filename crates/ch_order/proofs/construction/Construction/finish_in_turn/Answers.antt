@@ -1,4 +1,4 @@
--- When no node waits, the hierarchy is one that begins with some of the given nodes.
+-- When no node waits, the hierarchy is one that begins with the given nodes that are small.
 use Rattle.std.proofs.Common.{subst, refl, arith}
 use Rattle.std.proofs.lemmas.Result.{IfOk-weaker}
 use Rattle.ch_order.specs.Progress.{AreAll}
@@ -16,9 +16,5 @@ pub returns : goal.returns
 returns g c =
     let i = c.in_ok-all.ensures.under_way in
     IfOk-weaker c.finish.result _ _
-    (λ H all. (
-      i.some,
-      i.part,
-      any_at_end _ _ _ _ i.after (c.in_ok-all.ensures.none refl) H
-          (subst (λ n. AreAll n (progress_of c.in_ok-all.all) H) i.nodes all),
-    )) c.finish.ensures
+    (λ H all. any_at_end _ _ _ _ i.after (c.in_ok-all.ensures.none refl) H
+    (subst (λ n. AreAll n (progress_of c.in_ok-all.all) H) i.nodes all)) c.finish.ensures

@@ -1,5 +1,5 @@
 -- All nodes are put into the queue before the first one is contracted.
-use Rattle.std.proofs.Common.{◌<◌, ◌∙◌, ap, sym, subst, refl, []}
+use Rattle.std.proofs.Common.{◌<◌, ◌∙◌, ap, sym, subst, []}
 use Rattle.std.specs.Prelude.{All}
 use Rattle.ch_contract.proofs.theory.GivenNodes.{other_nodes}
 use Rattle.ch_order.proofs.QuickSteps.{any_at_start, under_way_rekeyed}
@@ -13,17 +13,16 @@ queue-requires-clause-nodes g c =
 pub take_given-requires-clause-begun : goal.take_given-requires-clause-begun
 take_given-requires-clause-begun g c κs within =
     let begun = c.in_ok-opened.ensures in
-    let queued = c.queue.ensures in (
+    let queued = c.queue.ensures in
+    let start = any_at_start c.args.graph.now c.args.hops.number c.args.order.now _ _ c.args.hops.in_range.0 c.requires.order begun.after
+    queued.queued in (
       record {
         sizes = queued.sizes;
         nodes = queued.nodes ∙ begun.nodes;
-        some = [];
-        part = refl;
-        after = any_at_start c.args.graph.now c.args.hops.number [] c.args.order.now _ _ c.args.hops.in_range.0
-            c.requires.order begun.after queued.queued;
+        after = start.0;
         ready = queued.ready c.args.hops.number begun.ready;
       },
-      ap (λ p. p.contracted) queued.queued.rest ∙ begun.after.after.contracted,
+      ap (λ p. p.contracted) queued.queued.rest ∙ begun.after.after.contracted ∙ sym start.1,
     )
 
 pub returns : goal.returns

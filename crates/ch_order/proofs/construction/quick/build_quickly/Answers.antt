@@ -2,7 +2,7 @@
 use Rattle.std.proofs.Common.{[]}
 use Rattle.std.proofs.lemmas.Result.{IfOk-weaker}
 use Rattle.ch_contract.proofs.theory.GivenNodes.{numbers_given}
-use Rattle.ch_order.proofs.QuickSteps.{after_none, after_some_kept}
+use Rattle.ch_order.proofs.QuickSteps.{after_none, after_small_kept}
 use Rattle.ch_order.proofs.construction.quick.build_quickly.Goals as goal
 
 pub contract_quickly-requires-clause-order : goal.contract_quickly-requires-clause-order
@@ -15,4 +15,4 @@ returns-clause-hierarchy g c = IfOk-weaker c.contract_quickly.result _ _
 
 pub returns-clause-kept : goal.returns-clause-kept
 returns-clause-kept g c = IfOk-weaker c.contract_quickly.result _ _
-    (λ H is. after_some_kept c.args.graph.now c.args.hops.number [] H c.ask_ahead.ensures is) c.contract_quickly.ensures
+    (λ H is. after_small_kept c.args.graph.now c.args.hops.number [] H c.ask_ahead.ensures is) c.contract_quickly.ensures

@@ -2,7 +2,7 @@
 use Rattle.std.proofs.Common.{[]}
 use Rattle.std.proofs.lemmas.Result.{IfOk-weaker}
 use Rattle.ch_contract.proofs.theory.GivenNodes.{numbers_given}
-use Rattle.ch_order.proofs.QuickSteps.{after_none, after_some_kept}
+use Rattle.ch_order.proofs.QuickSteps.{after_none, after_small_kept}
 use Rattle.ch_order.proofs.construction.quick.build_quickly_alone.Goals as goal
 
 pub begin-requires-clause-order : goal.begin-requires-clause-order
@@ -14,4 +14,4 @@ returns-clause-hierarchy c = IfOk-weaker c.finish_in_turn.result _ _
 
 pub returns-clause-kept : goal.returns-clause-kept
 returns-clause-kept c = IfOk-weaker c.finish_in_turn.result _ _
-    (λ H is. after_some_kept c.args.graph.now c.args.hops.number [] H c.in_ok-ask_ahead.ensures is) c.finish_in_turn.ensures
+    (λ H is. after_small_kept c.args.graph.now c.args.hops.number [] H c.in_ok-ask_ahead.ensures is) c.finish_in_turn.ensures
