@@ -26,7 +26,7 @@ const VERSION: u32 = 1_003_000;
 #[repr(C)]
 #[derive(Drop)]
 pub struct Handle {
-    is_open: u64,
+    pub(crate) is_open: u64,
     engine: ErasedEngine,
     ghost held: { IsSome engine.network ↔ (is_open ≡ 1) },
 }
@@ -42,7 +42,7 @@ impl Handle {
     }
 
     /// Puts an engine into a closed handle. An open one would lose its engine.
-    fn put(&mut self, engine: Box<Engine, Global>)
+    pub(crate) fn put(&mut self, engine: Box<Engine, Global>)
         requires { self.old.engine.network ≡ None }
         ensures { self.new.engine.network ≡ Some engine.value }
     {

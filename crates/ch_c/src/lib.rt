@@ -10,11 +10,13 @@
 
 mod answers;
 mod erased;
+mod erased_topology;
 mod faults;
 mod handle;
 mod near;
 mod raw_box;
 mod status;
+mod topology;
 
 pub use faults::Fault;
 pub use handle::{
@@ -24,3 +26,7 @@ pub use handle::{
     chtab_table, chtab_version,
 };
 pub use status::numbers;
+pub use topology::{
+    TopologyHandle, chtab_customized, chtab_topology_close, chtab_topology_open,
+    chtab_topology_open_arrays, chtab_topology_order, chtab_topology_share,
+};

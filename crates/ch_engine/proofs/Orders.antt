@@ -1,5 +1,5 @@
 -- Orders of nodes that bytes name.
-use Rattle.std.proofs.Common.{◌≡◌, ◌≢◌, ℕ, List, [], ◌∷◌, length, refl}
+use Rattle.std.proofs.Common.{◌≢◌, ℕ, List, [], ◌∷◌, length, refl}
 use Rattle.ch_graph.specs.Saved.{OrderAndLegs}
 use Rattle.ch_read.specs.Names.{NamesSaved}
 use Rattle.ch_engine.specs.Topologies.{IsNamedOrder}

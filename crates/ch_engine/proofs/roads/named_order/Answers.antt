@@ -1,5 +1,5 @@
 -- The order is that of the bytes, or any without bytes, and a fault is the first of the bytes.
-use Rattle.std.proofs.Common.{rules, ◌≡◌, ℕ, Err, refl, sym, ap, subst}
+use Rattle.std.proofs.Common.{rules, ℕ, Err, refl, sym, ap, subst}
 use Rattle.ch_graph.specs.Saved.{OrderAndLegs}
 use Rattle.ch_read.specs.Checks.{IsFault}
 use Rattle.ch_read.specs.Names.{NamesSaved}

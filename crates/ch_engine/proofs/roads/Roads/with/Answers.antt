@@ -1,5 +1,5 @@
 -- The topology of the graph serves each graph whose arcs have the same ends.
-use Rattle.std.proofs.Common.{◌≡◌, length, map, sym, ap, ◌∙◌}
+use Rattle.std.proofs.Common.{◌≡◌, length, sym, ap, ◌∙◌}
 use Rattle.std.proofs.lemmas.List.{length-map}
 use Rattle.ch_engine.specs.Topologies.{EndsAndPairs, HasEndsOf}
 use Rattle.ch_engine.proofs.SameEnds.{froms, tos, serves_all}
