@@ -83,6 +83,22 @@ class Layers:
             self.asked,
         )
 
+    def weighed(self, weights: Integers) -> Layers:
+        """The layers of the same network with other weights of its arcs. What depends on no weight
+        is shared."""
+        roads = self.roads.weighed(weights)
+        with self.lock:
+            kept = {name: value for name, value in self.kept.items() if name != "graph"}
+        other = Layers(self.path, asked=self.asked)
+        other.paths, other.stamps = self.paths, self.stamps
+        other.kept = kept | {
+            "roads": roads,
+            "graph": files.Graph(
+                files.count_nodes(self.path), fixed(roads.tails), fixed(roads.heads),
+                fixed(roads.weights), files.read_unit(self.path)),
+        }
+        return other
+
     def read(self, name: str, make: Callable[[], Any]) -> Any:
         with self.lock:
             if name not in self.kept:
