@@ -286,6 +286,7 @@ def test_the_old_network_may_close_at_any_step(monkeypatch):
     assert passed
 
 
+@pytest.mark.parametrize("each_way", ["built"], indirect=True)
 def test_the_program_builds_in_the_order_of_another_network():
     """By several workers, or with progress: of the saved hierarchy of the other one, and if that is gone, in this process. Other faults stay faults."""
     program = pathlib.Path("chtab")

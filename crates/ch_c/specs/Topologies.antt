@@ -73,4 +73,3 @@ IsCustomizing (Some t) weights None after fault_before fault status =
     ((status ≡ OK) × ((H : LevelsAndLegs) × (lines : Lines) × (after ≡ Some (only H lines)) × IsOpenedWith t weights H lines)
     × (fault ≡ fault_before))
     ⊎ ((error : OpenError) × (status ≡ error_status error) × (after ≡ None) × (fault ≡ fault_of error) × IsWeightsError t weights error)
-

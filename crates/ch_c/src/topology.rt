@@ -50,7 +50,10 @@ impl TopologyHandle {
         ensures taken { MatchOption result (self.old.topology.arcs ≡ None) (λ topology. self.old.topology.arcs ≡ Some topology.value) }
         ensures closed { self.new.topology.arcs ≡ None }
     {
-        let TopologyHandle { is_open, topology } = mem::replace(self, TopologyHandle::closed(alloc));
+        let TopologyHandle { is_open, topology } = mem::replace(
+            self,
+            TopologyHandle::closed(alloc),
+        );
         if is_open != 1 {
             return None;
         }
@@ -211,11 +214,7 @@ pub extern "C" fn chtab_customized(
 ///
 /// # Errors
 /// The errors of [`Topology::open`].
-fn opened(
-    alloc: Global,
-    graph: &[u8],
-    order: &[u8],
-) -> Result<Box<Topology, Global>, TopologyError>
+fn opened(alloc: Global, graph: &[u8], order: &[u8]) -> Result<Box<Topology, Global>, TopologyError>
     ensures value { IfOk result (λ topology. IsTopologyOpened graph.now order.now topology.value) }
     ensures error { IfErr result (IsTopologyError graph.now order.now) }
 {
