@@ -19,14 +19,14 @@
  * lengths or faulty files: each call tests what it gets, and returns a status.
  *
  * Threads. Make one call at a time with a handle: if two threads use one at once, a call may return CHTAB_OK with a wrong
- * answer, and the network may be lost. Give each thread a handle of its own with chtab_share: they share one network in
- * memory. Do not call from a signal handler. In a forked child of a process that had threads, do not call with the handles
- * of the parent: open new ones.
+ * answer, and the network may be lost. Give each thread a handle of its own with chtab_share, and a topology of its own with
+ * chtab_topology_share: they share one network, or one topology, in memory. Do not call from a signal handler. In a forked
+ * child of a process that had threads, do not call with the handles of the parent: open new ones.
  *
  * Your duties. The library cannot test these:
  *   - A pointer is not NULL, even if its length is 0, and points to as many elements as its length says.
- *   - The memory that a call writes overlaps no other argument. The two handles of chtab_share and chtab_open_like are
- *     different.
+ *   - The memory that a call writes overlaps no other argument. The two handles of chtab_share, chtab_topology_share and
+ *     chtab_open_like are different.
  *   - A handle is CHTAB_CLOSED_HANDLE, all zeros, before its first call. After that only this library changes it, and you
  *     do not copy it. Close it before you free its memory.
  */
@@ -85,7 +85,8 @@ typedef enum chtab_status {
     CHTAB_NO_PLACES = 11,   /* the handle keeps no near places: give it some with chtab_near_places */
     CHTAB_SUM_TOO_LARGE = 12, /* a sum is 2^64 or more, or a flow is more than 2^63 */
     CHTAB_OTHER_NODES = 13, /* the graph has another number of nodes than the network in whose order it is built */
-    CHTAB_FRESH_RANGE = 14  /* more than 100 per cent of the nodes would be ordered afresh */
+    CHTAB_FRESH_RANGE = 14, /* more than 100 per cent of the nodes would be ordered afresh */
+    CHTAB_TRIANGLES = 15    /* the topology would have more than 40 triangles a node: customization would not pay */
 } chtab_status;
 
 /* The kind of a fault. The first ten are faults of a line or of the end of a file, the others of a hierarchy for its graph.
@@ -117,6 +118,14 @@ typedef struct chtab {
     uint64_t is_open;
     void *engine;
 } chtab;
+
+/* The topology of a graph: its arcs without their weights, and an order of the nodes with the pairs of them between which
+ * there may be a leg: 16 bytes. It is made once, and opens networks with other weights on the same arcs. Only the library
+ * reads and writes its members. */
+typedef struct chtab_topology {
+    uint64_t is_open;
+    void *topology;
+} chtab_topology;
 
 /* The first fault of a file. Members that a fault does not have are 0. */
 typedef struct chtab_fault {
@@ -183,6 +192,50 @@ uint32_t chtab_share(chtab *handle, chtab *other);
 /* Closes an open handle, and frees its memory. You may open it again.
  * Errors: CHTAB_CLOSED. */
 uint32_t chtab_close(chtab *handle);
+
+/* Opens a closed topology with a graph: the bytes of its file. Weights do not count. `order` has the bytes of a saved
+ * hierarchy of as many nodes, or of its lines `p` and `o` alone, and names the order of the nodes. If `order_len` is 0, the
+ * call finds a nested dissection order itself, which takes about 3 to 5 microseconds a node, and nothing can break it off. Roads
+ * with the small cuts of real maps have some 10 to 30 triangles a node in such an order. An order with more than 40 a node is
+ * refused before the work: chtab_open_like serves it better. You may free the bytes afterwards.
+ * Errors: CHTAB_IS_OPEN, CHTAB_NO_MEMORY, CHTAB_BAD_GRAPH, CHTAB_BAD_SAVED for the bytes of the order, CHTAB_WRONG_SAVED if
+ * the order does not have each node once, CHTAB_TRIANGLES. All of these except the first write `fault`; it is all 0 for
+ * CHTAB_NO_MEMORY and CHTAB_TRIANGLES. Otherwise `fault` stays. */
+uint32_t chtab_topology_open(chtab_topology *topology, const uint8_t *graph, size_t graph_len, const uint8_t *order,
+                             size_t order_len, chtab_fault *fault);
+
+/* Opens a closed topology, as chtab_topology_open does, with the arcs from tails[k] to heads[k] between `nodes` nodes, as
+ * chtab_open_arrays takes them.
+ * Errors: CHTAB_IS_OPEN, CHTAB_LENGTHS, and those of chtab_topology_open. All of these except the first write `fault`; it is
+ * all 0 for CHTAB_LENGTHS, CHTAB_NO_MEMORY and CHTAB_TRIANGLES. For CHTAB_BAD_GRAPH its kind is CHTAB_FAULT_SIZE or
+ * CHTAB_FAULT_NODE_RANGE, its line is 0, and its place is the arc, or 0 for CHTAB_FAULT_SIZE. Otherwise `fault` stays. */
+uint32_t chtab_topology_open_arrays(chtab_topology *topology, uint32_t nodes, const uint32_t *tails, size_t tails_len,
+                                    const uint32_t *heads, size_t heads_len, const uint8_t *order, size_t order_len,
+                                    chtab_fault *fault);
+
+/* Opens the closed topology `other` as the open one `topology` is, for another thread. No other call may use one of the two
+ * meanwhile. Both share their memory, which is freed with the last of them.
+ * Errors: CHTAB_IS_OPEN for `other`, CHTAB_CLOSED for `topology`, CHTAB_NO_MEMORY. */
+uint32_t chtab_topology_share(chtab_topology *topology, chtab_topology *other);
+
+/* Writes the nodes in the order of the topology, from the one that is contracted first on. order_len is the number of nodes.
+ * With the line `p ch N 0` and a line `o V` for each node V, counted from 1, they are what chtab_topology_open takes.
+ * Errors: CHTAB_CLOSED, CHTAB_LENGTHS. */
+uint32_t chtab_topology_order(chtab_topology *topology, uint32_t *order, size_t order_len);
+
+/* Closes an open topology, and frees its memory. Networks that were opened with it stay open.
+ * Errors: CHTAB_CLOSED. */
+uint32_t chtab_topology_close(chtab_topology *topology);
+
+/* Opens the closed handle `handle` with the graph that has the nodes and arcs of `topology`, where arc k, which is on line k of
+ * its file or at place k of its arrays, weighs weights[k]. weights_len is the number of arcs. This is customization: it takes a
+ * small part of the time of chtab_open_like. Answers are as exact. `topology` stays open, and so does each handle that was
+ * opened before, with the weights that it has. You may free the weights afterwards.
+ * Errors: CHTAB_IS_OPEN for `handle`, CHTAB_CLOSED for `topology`; then CHTAB_LENGTHS and CHTAB_BAD_GRAPH, in this order, and
+ * CHTAB_NO_MEMORY. All of these except the first two write `fault`; it is all 0 except for CHTAB_BAD_GRAPH, where its kind is
+ * CHTAB_FAULT_WEIGHT and its place is the first arc whose weight is too large. Otherwise `fault` stays. */
+uint32_t chtab_customized(chtab *handle, chtab_topology *topology, const uint64_t *weights, size_t weights_len,
+                          chtab_fault *fault);
 
 /* Writes the number of nodes.
  * Errors: CHTAB_CLOSED. */
@@ -317,6 +370,7 @@ CHTAB_INLINE const char *chtab_strerror(uint32_t status) {
     case CHTAB_SUM_TOO_LARGE: return "a sum is too large";
     case CHTAB_OTHER_NODES: return "another number of nodes";
     case CHTAB_FRESH_RANGE: return "more than 100 per cent afresh";
+    case CHTAB_TRIANGLES: return "too many triangles";
     }
     return "unknown status";
 }

@@ -18,7 +18,7 @@ import sys
 import tempfile
 from pathlib import Path
 
-from helpers.in_process import HEADER, MADE, NO_DISTANCE, SHARED, Handle, Library, declared, statuses
+from helpers.in_process import HEADER, MADE, NO_DISTANCE, SHARED, Handle, Library, Topology, declared, statuses
 from helpers.running import ROOT, Count, build, run
 
 WARNINGS = "-Wall", "-Wextra", "-Wconversion", "-pedantic", "-Werror"
@@ -81,12 +81,12 @@ def compare_names(tally):
     tally.expect(number == major * 1_000_000 + minor * 1_000 == Library().calls.chtab_version(), "the version")
     needed = re.findall(r"NEEDED\s+(\S+)", done("objdump", "-p", SHARED).stdout)
     tally.expect(set(needed) <= {"libc.so.6"}, f"the library needs {needed}")
-    tally.expect(ctypes.sizeof(Handle) == 16, "a handle has 16 bytes")
+    tally.expect(ctypes.sizeof(Handle) == ctypes.sizeof(Topology) == 16, "a handle has 16 bytes")
 
 
 # The header's types for those of the library, and its names of parameters that have another one there.
 NAMES = {"second": "handle"}
-TYPES = {"u8": "uint8_t", "u32": "uint32_t", "u64": "uint64_t", "Handle": "chtab", "Fault": "chtab_fault", "Found": "chtab_found"}
+TYPES = {"u8": "uint8_t", "u32": "uint32_t", "u64": "uint64_t", "Handle": "chtab", "TopologyHandle": "chtab_topology", "Fault": "chtab_fault", "Found": "chtab_found"}
 
 
 def in_header(name, kind):
@@ -352,6 +352,94 @@ def refuse_likes(tally, library):
     library.close(handle)
 
 
+# Topologies that are refused: the graph, the bytes of the order, and the status with line, place and kind.
+ORDER = b"p ch 3 0\no 3\no 1\no 2\n"
+FAULTY_TOPOLOGIES = (
+    (b"", b"", "BAD_GRAPH", (1, 0, 4)),
+    (b"", b"x", "BAD_GRAPH", (1, 0, 4)),
+    (LINE.replace(b"a 2 3", b"a 2 4"), ORDER, "BAD_GRAPH", (3, 0, 6)),
+    (LINE, b"\n", "BAD_SAVED", (2, 0, 4)),
+    (LINE, ORDER.replace(b"p ch 3", b"p ch 4"), "BAD_SAVED", (1, 0, 8)),
+    (LINE, ORDER.replace(b"o 2\n", b""), "BAD_SAVED", (4, 0, 10)),
+    (LINE, ORDER.replace(b"o 2", b"o 4"), "BAD_SAVED", (4, 0, 6)),
+    (LINE, ORDER.replace(b"o 2", b"o 1"), "WRONG_SAVED", (0, 0, 11)),
+)
+# The same of arrays: the number of nodes, tails, heads and the order.
+FAULTY_ENDS = (
+    (9, [0], [1, 2], b"x", "LENGTHS", (0, 0, 0)),
+    (2**32 - 1, [0, 9], [1], b"", "LENGTHS", (0, 0, 0)),
+    (2**25 + 1, [], [], b"", "BAD_GRAPH", (0, 0, 8)),
+    (2**32 - 1, [2**32 - 1], [0], b"x", "BAD_GRAPH", (0, 0, 8)),
+    (3, [0, 3], [1, 2], b"", "BAD_GRAPH", (0, 1, 6)),
+    (3, [0, 1], [3, 3], b"x", "BAD_GRAPH", (0, 0, 6)),
+    (3, [0, 1], [1, 2], b"\n", "BAD_SAVED", (2, 0, 4)),
+    (3, [0, 1], [1, 2], ORDER.replace(b"o 2", b"o 1"), "WRONG_SAVED", (0, 0, 11)),
+)
+
+
+def complete(nodes):
+    """The ends of the arcs between all nodes, in one direction."""
+    ends = [(one, other) for other in range(nodes) for one in range(other)]
+    return [one for one, _ in ends], [other for _, other in ends]
+
+
+def refuse_topologies(tally, library):
+    """What is wrong with a graph or an order is told, and the topology stays closed. Of n nodes that are all joined there are
+    n (n - 1) (n - 2) / 6 triangles: 16 nodes have 560, and 17 have 680, which are just 40 a node; 18 have more."""
+    for *given, name, told in FAULTY_TOPOLOGIES:
+        status, topology, fault = library.topology_open(*given)
+        tally.expect((status, fault.told(), topology.is_open) == (STATUS[name], told, 0), f"a topology of {given}: {status} {fault.told()}, not {name} {told}")
+    for *given, name, told in FAULTY_ENDS:
+        status, topology, fault = library.topology_open_arrays(*given)
+        tally.expect((status, fault.told(), topology.is_open) == (STATUS[name], told, 0), f"a topology of {given}: {status} {fault.told()}, not {name} {told}")
+    for nodes, name in (16, "OK"), (17, "OK"), (18, "TRIANGLES"):
+        tails, heads = complete(nodes)
+        for order in b"", f"p ch {nodes} 0\n".encode() + b"".join(f"o {node + 1}\n".encode() for node in range(nodes)):
+            status, topology, fault = library.topology_open_arrays(nodes, tails, heads, order)
+            tally.expect((status, fault.told(), topology.is_open) == (STATUS[name], (0, 0, 0), name == "OK"), f"{nodes} nodes that are all joined: {status}")
+            library.topology_close(topology)
+    status, topology, _ = library.topology_open_arrays(0, [], [])
+    status, handle, _ = library.customized(topology, [])
+    tally.expect(status == 0 and library.nodes(handle) == (0, 0) and library.close(handle) == 0 and library.topology_close(topology) == 0, "no nodes")
+
+
+def refuse_weights(tally, library):
+    """What is wrong with weights is told in the order that the header says. The handle stays closed, the topology stays as it is, and each network that
+    was opened before answers on. A topology of another graph takes as many weights as that graph has arcs."""
+    status, topology, _ = library.topology_open(LINE, ORDER)
+    _, first, _ = library.customized(topology, [4, 5])
+    tally.expect(library.distances(first, [0, 2], [2, 0]) == (0, [9, NO_DISTANCE]), "the weights of a graph")
+    most = 2**60 // 3
+    for weights, name, told in (
+        ([], "LENGTHS", (0, 0, 0)), ([4], "LENGTHS", (0, 0, 0)), ([4, 5, 6], "LENGTHS", (0, 0, 0)), ([2**64 - 1] * 3, "LENGTHS", (0, 0, 0)),
+        ([4, most + 1], "BAD_GRAPH", (0, 1, 7)), ([most + 1, 4], "BAD_GRAPH", (0, 0, 7)), ([2**64 - 1, 2**64 - 1], "BAD_GRAPH", (0, 0, 7)),
+        ([4, 2**64 - 1], "BAD_GRAPH", (0, 1, 7)),
+    ):
+        status, handle, fault = library.customized(topology, weights)
+        tally.expect((status, fault.told(), handle.is_open) == (STATUS[name], told, 0), f"weights {weights}: {status} {fault.told()}, not {name} {told}")
+        tally.expect(library.topology_order(topology, 3) == (0, [2, 0, 1]), "a topology stays")
+        tally.expect(library.distances(first, [0], [2]) == (0, [9]), "the network that was opened before")
+    status, second, _ = library.customized(topology, [most, 1])
+    tally.expect(status == 0 and library.distances(second, [0, 0, 1], [1, 2, 2]) == (0, [most, most + 1, 1]), "the greatest weight")
+    tally.expect(library.customized(topology, [7], second)[0] == STATUS["IS_OPEN"], "an open handle that is to be opened")
+    tally.expect(library.customized(Topology(), [7])[0] == STATUS["CLOSED"], "weights on a closed topology")
+    tally.expect(library.customized(Topology(), [7], second)[0] == STATUS["IS_OPEN"], "an open handle, and a closed topology")
+    tally.expect(library.topology_open(b"", b"", topology)[0] == STATUS["IS_OPEN"], "an open topology that is to be opened")
+    tally.expect(library.topology_open_arrays(9, [0], [], b"", topology)[0] == STATUS["IS_OPEN"], "an open topology that is to be opened by arrays")
+    for room, name in (0, "LENGTHS"), (2, "LENGTHS"), (4, "LENGTHS"):
+        tally.expect(library.topology_order(topology, room) == (STATUS[name], [7] * room), f"an order into a room of {room}")
+    other = Topology()
+    tally.expect(library.topology_order(other, 3) == (STATUS["CLOSED"], [7] * 3), "the order of a closed topology")
+    tally.expect(library.topology_share(other, Topology()) == STATUS["CLOSED"], "a closed topology that is to be shared")
+    tally.expect(library.topology_share(topology, other) == 0 and library.topology_share(topology, other) == STATUS["IS_OPEN"], "a shared topology")
+    tally.expect(library.topology_close(topology) == 0 and library.topology_close(topology) == STATUS["CLOSED"], "a topology closes once")
+    status, third, _ = library.customized(other, [1, 2])
+    tally.expect(status == 0 and library.distances(third, [0], [2]) == (0, [3]), "the shared topology outlives the first")
+    tally.expect(library.topology_close(other) == 0, "the shared topology closes")
+    tally.expect([library.distances(handle, [0], [2])[1] for handle in (first, second, third)] == [[9], [most + 1], [3]], "three networks of one topology")
+    tally.expect([library.close(handle) for handle in (first, second, third)] == [0] * 3, "all close")
+
+
 def main():
     given = argparse.ArgumentParser(usage="library.py [--calls CALLS]", description=__doc__, formatter_class=argparse.RawDescriptionHelpFormatter)
     given.add_argument("--calls", default=5_000, type=int)
@@ -380,6 +468,8 @@ def main():
     refuse_large_flows(tally, library)
     refuse_quickly(tally, library)
     refuse_likes(tally, library)
+    refuse_topologies(tally, library)
+    refuse_weights(tally, library)
     fuzzed = done(sys.executable, ROOT / "tests/library/fuzz.py", calls, 1)
     passed, failed = map(int, (re.search(r"(\d+) passed, (\d+) failed$", fuzzed.stdout.strip()) or re.match("(0) (1)", "0 1")).groups())
     print(fuzzed.stdout + fuzzed.stderr, end="")

@@ -1,5 +1,5 @@
 #!/usr/bin/python3
-"""Tests the answers of the library for C: distances, tables, routes, near rows, sums, and hierarchies that it builds.
+"""Tests the answers of the library for C: distances, tables, routes, near rows, sums, and hierarchies that it builds or customizes.
 
 Makes the library where that is needed. Answers are those of the program and of Dijkstra's algorithm on the shipped graphs, and hierarchies those of
 an independent program. Four threads, with a handle each, answer what one does. The last line is 'N passed, N failed'.
@@ -13,12 +13,13 @@ from pathlib import Path
 
 from helpers import in_process
 from helpers.cases import Case
-from helpers.in_process import ALL, NO_DISTANCE, Handle, Library, statuses
+from helpers.in_process import ALL, NO_DISTANCE, Handle, Library, Topology, statuses
 from helpers.running import ROOT, Count, build, run
 from helpers.writing import write_list, write_queries
 from oracles.dijkstra import arcs_ahead, distances_from
 from oracles.reading import graph_of
 from oracles.rules import text_like
+from oracles.topologies import triangles_of
 
 GRAPHS = ROOT / "examples/first.gr", ROOT / "examples/liechtenstein.gr"
 STATUS = statuses()
@@ -317,6 +318,126 @@ def compare_like(tally, library, graph):
     library.close(handle)
 
 
+def text_of_order(order):
+    """The lines of a saved hierarchy that name an order of nodes, which count from 0."""
+    return "".join([f"p ch {len(order)} 0\n", *(f"o {node + 1}\n" for node in order)]).encode()
+
+
+def text_of(library, handle):
+    """The hierarchy of a handle as text."""
+    return library.save(handle, library.save(handle, 0)[1])
+
+
+def away_of(arcs, pairs):
+    """The distances of pairs by Dijkstra's algorithm."""
+    ahead = arcs_ahead(arcs)
+    away = {source: distances_from(source + 1, ahead) for source in set(pairs[0])}
+    return [away[source].get(target + 1, NO_DISTANCE) for source, target in zip(*pairs)]
+
+
+def compare_customized(tally, library, graph, hierarchy):
+    """New weights on the arcs of a topology: the answers are those of Dijkstra's algorithm, and each network that was opened before answers as it did.
+    The routes, their lines and flows are those of the same graph by a hierarchy that is built."""
+    count, arcs = graph_of(graph)
+    draw = random.Random(f"library customized {graph.name}")
+    pairs = [[draw.randrange(count) for _ in range(40)] for _ in range(2)]
+    demands, columns = [draw.randrange(99) for _ in pairs[0]], [[arc[end] - 1 for arc in arcs] for end in range(2)]
+    status, topology, _ = library.topology_open(graph.read_bytes())
+    found, order = library.topology_order(topology, count)
+    tally.expect((status, found) == (0, 0) and sorted(order) == [*range(count)], f"{graph.name}: a topology and its order")
+    topologies = [topology, *(opened[1] for opened in (
+        library.topology_open(graph.read_bytes(), text_of_order(order)), library.topology_open_arrays(count, *columns),
+        library.topology_open_arrays(count, *columns, text_of_order(order))))]
+    by_depth = [int(node) - 1 for node in re.findall(r"^o (\d+)$", hierarchy.read_text(), re.MULTILINE)]
+    status, other, _ = library.topology_open(graph.read_bytes(), hierarchy.read_bytes())
+    tally.expect(status == (0 if triangles_of(count, arcs, by_depth) <= 40 * count else STATUS["TRIANGLES"]), f"{graph.name}: the order by depth, {status}")
+    topologies += [other] * (status == 0)
+    before, texts = [], []
+    for name, weight_of in {"its own weights": lambda draw, weight: weight, **WEIGHTS, "weights of 0": lambda draw, weight: 0}.items():
+        weights = [weight_of(draw, weight) for _, _, weight in arcs]
+        new = [(start, end, weight) for (start, end, _), weight in zip(arcs, weights)]
+        owed = away_of(new, pairs)
+        built = library.open_quick(graph_text(count, new))[1]
+        room = 50 * count
+        for place, each in enumerate(topologies):
+            status, handle, fault = library.customized(each, weights)
+            tally.expect((status, fault.told()) == (0, (0, 0, 0)) and library.distances(handle, *pairs) == (0, owed), f"{graph.name}: {name}, topology {place}")
+            sums = library.route_sums(handle, *pairs, weights)
+            tally.expect(sums == (0, len(owed), owed, [0 if away == NO_DISTANCE else away for away in owed]), f"{graph.name}: {name}, sums on lines")
+            _, routes, _, ends, nodes, lines = library.routes(handle, *pairs, room, lines_room=room)
+            steps = [(nodes[k - 1] + 1, nodes[k] + 1, lines[k]) for begin, end in zip([0, *ends], ends) for k in range(begin + 1, end)]
+            tally.expect(routes == len(owed) and all(arcs[line][:2] == (one, other) for one, other, line in steps), f"{graph.name}: {name}, lines of routes")
+            flows = [0] * len(arcs)
+            for demand, begin, end in zip(demands, [0, *ends], ends):
+                for line in lines[begin + 1:end]:
+                    flows[line] += demand
+            tally.expect(library.flows(handle, *pairs, demands, len(arcs)) == (0, owed.count(NO_DISTANCE), flows), f"{graph.name}: {name}, flows")
+            tally.expect(library.table(handle, *pairs) == library.table(built, *pairs), f"{graph.name}: {name}, a table")
+            texts.append((name, place == 4, text_of(library, handle)))
+            before.append((handle, owed))
+        library.close(built)
+    for name, is_given, text in texts:
+        tally.expect(text in [other for one, given, other in texts if (one, given) == (name, is_given)][:1], f"{graph.name}: {name}, one hierarchy for one order")
+    tally.expect([library.topology_close(each) for each in topologies] == [0] * len(topologies), "topologies close")
+    for handle, owed in before:
+        tally.expect(library.distances(handle, *pairs) == (0, owed), f"{graph.name}: a network of earlier weights, once its topology is closed")
+        library.close(handle)
+
+
+def compare_random_customized(tally, library):
+    """Random graphs with loops and parallel arcs, in random orders, with random weights: all distances are those of Dijkstra's algorithm. An order has a
+    topology just if it has at most 40 triangles a node, which an independent count says."""
+    for seed in range(120):
+        case, draw = Case(f"library customized {seed}"), random.Random(f"library customized {seed}")
+        order = draw.sample(range(case.nodes), case.nodes)
+        columns, every = [[arc[end] - 1 for arc in case.arcs] for end in range(2)], range(case.nodes)
+        given = draw.choice((b"", text_of_order(order), text_of_order(order)))
+        opened = library.topology_open(graph_text(case.nodes, case.arcs), given), library.topology_open_arrays(case.nodes, *columns, given)
+        for status, topology, fault in opened:
+            few = not given or triangles_of(case.nodes, case.arcs, order) <= 40 * case.nodes
+            tally.expect((status, fault.told()) == (0 if few else STATUS["TRIANGLES"], (0, 0, 0)), f"the topology of graph {seed}: {status}")
+            tally.expect(not few or not given or library.topology_order(topology, case.nodes) == (0, order), f"the order of graph {seed}")
+            for most in (1, 9, 1_000_000) if few else ():
+                new = [(start, end, draw.randrange(most)) for start, end, _ in case.arcs]
+                status, handle, _ = library.customized(topology, [weight for _, _, weight in new])
+                owed = [away for source in every for away in away_of(new, [[source] * case.nodes, every])]
+                tally.expect(status == 0 and library.table(handle, every, every) == (0, owed), f"graph {seed} with weights below {most}")
+                library.close(handle)
+            library.topology_close(topology)
+
+
+def weigh_in_threads(tally, library, graph):
+    """While three threads ask networks that are customized, each in one of two weights, a fourth customizes new ones, by a topology that all share."""
+    count, arcs = graph_of(graph)
+    draw = random.Random("library weights in threads")
+    pairs = [[draw.randrange(count) for _ in range(200)] for _ in range(2)]
+    weighings = [[weight for _, _, weight in arcs], [draw.randrange(9_000) for _ in arcs]]
+    owed = [away_of([(start, end, weight) for (start, end, _), weight in zip(arcs, weights)], pairs) for weights in weighings]
+    status, topology, _ = library.topology_open(graph.read_bytes())
+    topologies = [Topology() for _ in range(4)]
+    shared = [library.topology_share(topology, other) for other in topologies]
+    tally.expect(status == 0 and shared == [0] * 4, "four threads share a topology")
+    answers, kept = [[] for _ in range(4)], Handle()
+
+    def ask(place):
+        for turn in range(12):
+            which = (place + turn) % 2
+            status, handle, _ = library.customized(topologies[place], weighings[which])
+            answers[place].append(status == 0 and library.distances(handle, *pairs) == (0, owed[which]))
+            is_first = place == turn == 0
+            answers[place].append((not is_first or library.share(handle, kept) == 0) and library.close(handle) == 0)
+
+    threads = [threading.Thread(target=ask, args=(place,)) for place in range(4)]
+    for thread in threads:
+        thread.start()
+    tally.expect(library.topology_close(topology) == 0, "the first topology closes while others are in use")
+    for thread in threads:
+        thread.join()
+    tally.expect([all(answer) for answer in answers] == [True] * 4 and {*map(len, answers)} == {24}, "new weights while threads ask")
+    tally.expect(library.distances(kept, *pairs) == (0, owed[0]), "a shared network outlives its topology")
+    tally.expect([library.topology_close(each) for each in topologies] == [0] * 4 and library.close(kept) == 0, "all close")
+
+
 def compare_orders(tally, library):
     """Of random graphs, in the order of another one with as many nodes: the hierarchy is that of an independent program."""
     for seed in range(60):
@@ -361,6 +482,7 @@ def main():
     tally, library = Count(), Library()
     compare_orders(tally, library)
     compare_random_arrays(tally, library)
+    compare_random_customized(tally, library)
     tell_lines(tally, library)
     with tempfile.TemporaryDirectory() as kept:
         folder = Path(kept)
@@ -377,6 +499,8 @@ def main():
             compare_arrays(tally, library, graph, saved)
             compare_quick(tally, library, graph)
             compare_like(tally, library, graph)
+            compare_customized(tally, library, graph, saved)
+        weigh_in_threads(tally, library, GRAPHS[1])
         ask_in_threads(tally, library, GRAPHS[1], saved)
     tally.finish()
 

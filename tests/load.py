@@ -189,6 +189,93 @@ def fifty_clients_while_runs_are_killed(*words):
         assert memory_of([child.pid, *processes_below(child.pid)]) < 1.1 * held + 16e6 * (1 + len(own) / 2), held
 
 
+class Traffic:
+    """Two files of speeds for a copy of the country, whose nodes have numbers of a map, and the weights of trips between some places by each of them."""
+
+    def __init__(self, count, seed):
+        draw = random.Random(seed)
+        for suffix in "gr", "co":
+            shutil.copy(f"{COUNTRY}.{suffix}", f"net.{suffix}")
+        with chtab.Network.open("net.gr", program=PROGRAM) as network:
+            known, graph = network.coordinates.known(), network.graph
+            numbers = draw.sample(range(10**9, 10**10), network.nodes)
+            pathlib.Path("net.nodes").write_text("".join(f"{number}\n" for number in numbers))
+            self.places = [[round(part + draw.gauss(0, 0.0004), 6) for part in network.coordinates.of(draw.choice(known))] for _ in range(count)]
+            spots = network.snap(*zip(*self.places))
+            metres = [nanometres / 1e9 for nanometres in network.roads.nanometres.tolist()]
+            self.tables = {}
+            for name in "slow", "fast":
+                pairs = {pair: draw.uniform(3, 130) for pair in zip(graph.tails, graph.heads) if draw.random() < 0.9}
+                lines = [f"{numbers[tail - 1]},{numbers[head - 1]},{speed!r}" for (tail, head), speed in pairs.items()]
+                # What behind the speed, lines of no road, and an earlier line of the same piece count for nothing.
+                lines = [f"{lines[0].rpartition(',')[0]},7", "1,2,50", f"{numbers[0]},5,50,1.5", *(line + draw.choice(("", ",1.5")) for line in lines)]
+                pathlib.Path(name).write_text("".join(f"{line}\n" for line in lines))
+                weights = [
+                    (round(length * 3600 / pairs[pair]) or 1) if pair in pairs and length else weight
+                    for pair, length, weight in zip(zip(graph.tails, graph.heads), metres, graph.weights)
+                ]
+                with network.changed(weights) as other:
+                    self.tables[name] = other.trip_table(other.snap(*zip(*self.places)), other.snap(*zip(*self.places))).tolist()
+            assert len(spots) == count and self.tables["slow"] != self.tables["fast"]
+
+    def put(self, name):
+        """Puts a file in the place of the one that the service reads."""
+        shutil.copy(name, "speeds.new")
+        os.replace("speeds.new", "speeds.csv")
+
+    def fits(self, answer, which, name):
+        """Whether a table of some places is that of a file."""
+        return answer == [[None if weight < 0 else weight for weight in (self.tables[name][one][other] for other in which)] for one in which]
+
+
+def fifty_clients_while_speeds_change(*words):
+    """Speeds are exchanged while fifty clients ask: none fails, each answer is right for one file, and after an exchange no answer is by the file before."""
+    traffic = Traffic(24, "traffic")
+    traffic.put("slow")
+    seen, wrong, lock, ended = collections.Counter(), [], threading.Lock(), threading.Event()
+
+    def work(address, seed):
+        draw = random.Random(seed)
+        while not ended.is_set():
+            which = [draw.randrange(len(traffic.places)) for _ in range(draw.choice((2, 6)))]
+            places = [traffic.places[each] for each in which]
+            status, answer = ask(address, "/api/table", {"sources": places, "targets": places})
+            fits = [name for name in traffic.tables if status == 200 and traffic.fits(answer["weights"], which, name)]
+            with lock:
+                seen.update(fits)
+                if not fits:
+                    wrong.append((status, answer))
+
+    def is_by(address, name):
+        """Whether each process answers by a file: many requests in turn, each on a connection of its own."""
+        which = [*range(len(traffic.places))]
+        body = {"sources": traffic.places, "targets": traffic.places}
+        return all(traffic.fits(ask(address, "/api/table", body)[1]["weights"], which, name) for _ in range(6))
+
+    with service("net", "--segment-speed-file", "speeds.csv", *words) as (child, address), concurrent.futures.ThreadPoolExecutor(CLIENTS) as clients:
+        assert is_by(address, "slow")
+        working = [clients.submit(work, address, seed) for seed in range(CLIENTS)]
+        try:
+            for turn in range(4):
+                name, before = ("fast", "slow")[turn % 2], seen.total()
+                if turn % 3 == 2:
+                    pathlib.Path("speeds.csv").write_bytes(pathlib.Path(name).read_bytes())
+                    child.send_signal(signal.SIGHUP)
+                else:
+                    traffic.put(name)
+                until(lambda: is_by(address, name) and seen.total() > before + MANY / 20)
+        finally:
+            ended.set()
+        for each in working:
+            each.result(PATIENCE)
+    assert not wrong and min(seen["slow"], seen["fast"]) > MANY / 20, (seen, len(wrong), wrong[:3])
+    assert "Traceback" not in open("told").read(), open("told").read()
+
+
+def also_speeds_of_several_processes():
+    fifty_clients_while_speeds_change("--processes", "3")
+
+
 def also_by_several_processes():
     fifty_clients_while_runs_are_killed("--processes", "3")
 
@@ -468,7 +555,7 @@ def check_command(words):
 
 GROUPS = (
     (SERVICE, [
-        fifty_clients_while_runs_are_killed, also_by_several_processes, processes_are_begun_anew, an_address_takes_its_share,
+        fifty_clients_while_runs_are_killed, also_by_several_processes, fifty_clients_while_speeds_change, also_speeds_of_several_processes, processes_are_begun_anew, an_address_takes_its_share,
         it_ends_once_it_has_answered, the_library_answers_where_it_fits, the_library_answers_for_networks_with_names, what_takes_too_long_is_broken_off,
     ]),
     ((*SERVICE, "python3-prometheus-client"), (requests_are_counted_and_logged,)),

@@ -250,6 +250,56 @@ def a_new_network_without_a_lost_request():
         assert all(open(f"told{place}").read() == "" for place in range(6))
 
 
+def speeds_that_are_refused():
+    """A service does not start with a file of speeds that is wrong, nor on a network without the map's numbers. While it answers, a wrong file leaves the
+    speeds before, is told once, and the next right one is taken; health and metrics have the age."""
+    copied("net")
+    path = pathlib.Path("speeds.csv")
+    nodes = int(re.search(r"^p sp (\d+)", pathlib.Path("net.gr").read_text(), re.MULTILINE)[1])
+    numbers = [10**9 + 7 * node for node in range(nodes)]
+    words = "--segment-speed-file", "speeds.csv"
+
+    def refusal():
+        with running_service(*words, out="net") as (child, _):
+            child.wait(PATIENCE)
+        assert child.returncode == 1 and "Traceback" not in told(), (child.returncode, told())
+        return told()
+
+    path.write_text(f"{numbers[0]},{numbers[1]},50\n")
+    assert "net.nodes is missing" in refusal()
+    pathlib.Path("net.nodes").write_text("".join(f"{number}\n" for number in numbers))
+    wrong = "1,2,0\n", "1,2,-5\n", "1,2,nan\n", "1,2,inf\n", "1,2\n", "1;2;3\n", "a,b,c\n", "from,to,speed\n1,2,3\n", "99999999999999999999,2,50\n", "1,2,\xff\n"
+    path.write_bytes(wrong[0].encode())
+    assert "speeds.csv" in refusal()
+    path.write_text("")
+    with running_service(*words, out="net") as (child, address):
+        before = ask(address, ROUTE)
+        assert before[0] == 200 and 0 <= ask(address, "/health")[1]["speeds"]["age"] < PATIENCE
+        for count, text in enumerate(wrong, 1):
+            path.with_suffix(".new").write_bytes(text.encode("latin-1"))
+            os.replace(path.with_suffix(".new"), path)
+            until(lambda: told().count("the speeds before stay") == count, told)
+            assert ask(address, ROUTE) == before and ask(address, "/health")[1]["status"] == "ready"
+        path.unlink()
+        child.send_signal(signal.SIGHUP)
+        until(lambda: told().count("the speeds before stay") == len(wrong) + 1, told)
+        path.with_suffix(".new").write_text("".join(f"{one},{other},10\n" for one, other in pairs_of("net.gr", numbers)))
+        os.utime(path.with_suffix(".new"), (time.time() - 5_000,) * 2)
+        os.replace(path.with_suffix(".new"), path)
+        until(lambda: ask(address, ROUTE)[1]["routes"][0]["duration"] > 2 * before[1]["routes"][0]["duration"], told)
+        assert 4_990 < ask(address, "/health")[1]["speeds"]["age"] < 5_000 + PATIENCE
+        metrics = send(address, "/metrics")[2].decode()
+        assert 4_990 < int(re.search(r"^chtab_speeds_age_seconds (\d+)$", metrics, re.MULTILINE)[1]) < 5_000 + PATIENCE
+    assert child.returncode == 0 and "Traceback" not in told(), told()
+    with running_service(out="net") as (child, address):
+        assert "speeds" not in ask(address, "/health")[1] and "chtab_speeds" not in send(address, "/metrics")[2].decode()
+
+
+def pairs_of(graph, numbers):
+    """The map's numbers at the ends of the arcs of a graph."""
+    return [(numbers[int(tail) - 1], numbers[int(head) - 1]) for tail, head in re.findall(r"^a (\d+) (\d+)", pathlib.Path(graph).read_text(), re.MULTILINE)]
+
+
 def it_says_that_connections_close():
     """While it ends after another service took its port over, each answer says that the connection closes, and idle clients have a while for one."""
     patient = "--grace", 2 * PATIENCE, "--ending", 2 * PATIENCE, "--idle", 2 * PATIENCE
@@ -319,7 +369,7 @@ GROUPS = (
         files_that_are_changed, health_is_no_better_than_answers, addresses_that_proxies_name,
         requests_that_once_failed, files_that_are_missing, a_second_service_on_the_port, it_says_that_connections_close,
         systemd_is_notified, the_log_says_why,
-        files_that_are_replaced, a_new_network_without_a_lost_request,
+        files_that_are_replaced, a_new_network_without_a_lost_request, speeds_that_are_refused,
     ]),
 )
 

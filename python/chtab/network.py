@@ -14,6 +14,7 @@ index: they may be in any order if they have the same labels, and are refused ot
 """
 from __future__ import annotations
 
+import dataclasses
 import difflib
 import functools
 import inspect
@@ -26,6 +27,7 @@ from numpy.typing import ArrayLike, NDArray
 
 from chtab import files
 from chtab._engine import deadlines, making, opening
+from chtab._engine.customizing import Customizing
 from chtab._engine.in_process import InProcess
 from chtab._engine.progress import Asked as Progress
 from chtab._engine.walks import NO_WALK
@@ -118,6 +120,7 @@ class Network:
         arcs = None if graph is None else (graph.tails, graph.heads, graph.weights)
         self._engine = InProcess(opened.setting, arcs)
         self._trips = Trips(self._engine, self._layers)
+        self._customizing: Customizing | None = None
 
     # Networks of files, and of a caller's own arcs.
 
@@ -551,13 +554,14 @@ class Network:
         fresh : int
             How many per cent of the nodes are ordered afresh, from 0 to 100. More of them make
             building slower, and answers faster if the weights differ much. The answers themselves
-            are the same.
+            are the same. It has no effect where weights are customized.
 
         Returns
         -------
         Network
             The changed network. It is built in the order of this one, in about half of the time of
-            building by depth.
+            building by depth. If this network is `customizable` and no arcs are added, its weights
+            are customized, which takes a small part of that, and so is what is changed later.
 
         Raises
         ------
@@ -579,10 +583,84 @@ class Network:
         with from_arcs.known_to_be_closed(self):
             arcs = scenarios.arcs_of(self._layers, self._measure, weights, closed, added)
         opened, setting = self._opened, self._opened.setting
+        customizing = self._topology() if added is None else None
         running = opening.Running(
             setting.program, setting.workers, setting.timeout, True, setting.library, opened.asked,
-            like=self, fresh=fresh)
+            like=self, fresh=fresh,
+            customizing=customizing and customizing.with_ends(arcs.tails, arcs.heads))
         return self._made(arcs, folder, running)
+
+    def customizable(self, order: str | os.PathLike | Iterable | None = None) -> Self:
+        """Prepares the network for new weights: from here on `changed` customizes them, which takes
+        a small part of the time of building, unless arcs are added.
+
+        This finds an order of the nodes and the legs that there may be in it, whatever the weights
+        are. It takes some microseconds for each node. The order is kept in the folder of the
+        network, if it has one, and serves each network that is opened from there. Answers are as
+        exact as before.
+
+        Parameters
+        ----------
+        order : path, or list of nodes, optional
+            The order: a file that `chtab save` wrote, or its lines `p` and `o` alone; or each node
+            once, from the least important on. By default a nested dissection order is found.
+
+        Returns
+        -------
+        Network
+            This network.
+
+        Raises
+        ------
+        DataFault
+            There are more than 40 triangles a node in this order, so that customizing would take
+            too long, or the list does not have each node once. Roads with the small cuts of real
+            maps have fewer. The network stays as it was.
+        ProgramFault, ChtabError, OSError
+            The file is refused, the network is closed, or a file can't be read or written.
+
+        Examples
+        --------
+        >>> network = Network.open("roads.gr").customizable()  # doctest: +SKIP
+        >>> for minute, weights in traffic:  # doctest: +SKIP
+        ...     with network.changed(weights=weights) as now:
+        ...         times = now.table(depots, customers)
+        """
+        see_that_network(self)
+        with from_arcs.known_to_be_closed(self):
+            customizing = self._customized_in(scenarios.order_of(self._layers, order))
+            customizing.opened()
+            if self._opened.labelling is not None:
+                path = os.path.join(os.path.dirname(self._opened.setting.graph), making.ORDER)
+                customizing.keep(path)
+                self._opened = dataclasses.replace(self._opened, order=path)
+        self._customizing = customizing
+        return self
+
+    def _customized_in(self, order: bytes | str | None) -> Customizing:
+        """What customizes weights of the arcs of this network, in an order."""
+        graph = self._layers.graph
+        tails, heads = (numpy.asarray(column, numpy.int64) for column in (graph.tails, graph.heads))
+        return Customizing(self._engine.calls, self.nodes, tails, heads, order)
+
+    def _weighed(self, weights: NDArray[numpy.int64], customizing: Customizing) -> Self:
+        """The same network with other weights of its arcs, in the order of the graph's lines. It is
+        written to no files, so that only this process can ask it."""
+        handle = customizing.handle(weights)
+        other = object.__new__(type(self))
+        vars(other).update(vars(self))
+        other._layers = self._layers.weighed(weights)
+        other._engine = InProcess(self._opened.setting)
+        other._engine.begin_with(handle)
+        other._trips = Trips(other._engine, other._layers)
+        other._customizing = customizing
+        return other
+
+    def _topology(self) -> Customizing | None:
+        """What customizes weights of the arcs of this network, if it was made customizable."""
+        if self._customizing is None and self._opened.order is not None:
+            self._customizing = self._customized_in(self._opened.order)
+        return self._customizing
 
     @classmethod
     def _made(
@@ -600,6 +678,7 @@ class Network:
             opened, kept, handle = opening.made(arcs, folder, running)
         try:
             network = cls(opened, kept, making.layers_of(arcs))
+            network._customizing = running.customizing
             if handle is not None:
                 network._engine.begin_with(handle)
             network._load(running)

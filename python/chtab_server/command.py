@@ -126,6 +126,11 @@ def add_engines(parser: argparse.ArgumentParser) -> None:
         "--library", nargs="?", const="", metavar="FILE",
         help="the library for C that answers in each process (libchtab.so.1 beside the program)",
     )
+    parser.add_argument(
+        "--segment-speed-file", metavar="FILE",
+        help="speeds of pieces of road, in OSRM's form: lines from_osm_id,to_osm_id,speed in kilometres an hour. They are put in place of those of the map, "
+             "and again on SIGHUP or once the file is replaced, while the service answers. OUT.nodes is needed",
+    )
     # Runs of the program answered in version 1.1, if this was given.
     parser.add_argument("--pipe", action="store_true", help=argparse.SUPPRESS)
 
@@ -211,7 +216,8 @@ def main(words: Sequence[str]) -> None:
     web_policy.tile_sources(choices.tiles)
     sys.setswitchinterval(TURN)
     networks = named(found)
-    more = {"program": found.program, "workers": found.workers, "timeout": found.timeout, "load": found.processes == 1}
+    is_loaded = found.processes == 1 and not found.segment_speed_file
+    more = {"program": found.program, "workers": found.workers, "timeout": found.timeout, "load": is_loaded}
     if found.prepare:
         with Networks(networks, library=found.library or None, **more | {"load": False}) as served:
             print(*(each.prepare() for each in served), sep="\n")
@@ -233,12 +239,16 @@ def serve_all(words: argparse.Namespace, networks: Networks, choices: Choices, p
     from chtab_server.ports import notify
     from chtab_server.service import Material, Service
     from chtab_server.serving import Family, serve
+    from chtab_server.speeds import Traffic
 
+    traffic = Traffic(words.segment_speed_file, networks) if words.segment_speed_file else None
+    if traffic is not None:
+        traffic.put(*traffic.networks())
     metrics, material = Metrics(words.processes), Material(networks, choices)
 
     def service(row: int) -> Service:
         networks.load()
-        return Service(networks, choices, metrics, row, material)
+        return Service(networks, choices, metrics, row, material, traffic)
 
     def tell() -> None:
         print(port.address, flush=True)
@@ -252,7 +262,7 @@ def serve_all(words: argparse.Namespace, networks: Networks, choices: Choices, p
     gc.freeze()
     if words.processes == 1:
         return asyncio.run(serve(service(0), port, tell))
-    return Family(words.processes, service, metrics, port, networks.told).run(tell)
+    return Family(words.processes, service, metrics, port, networks.told, traffic is not None).run(tell)
 
 
 def command() -> None:

@@ -7,6 +7,7 @@ from __future__ import annotations
 
 import bisect
 import mmap
+import time
 from collections.abc import Iterable, Sequence
 from typing import TYPE_CHECKING
 
@@ -25,7 +26,7 @@ CODES = (
 REASONS = *CODES, "form", "page", "size", "sending", "gone", "busy", "time", "program", "fault", "http", "idle", "connections", "system"
 # The upper ends of the ranges of seconds; the last range has no end.
 EDGES = 0.001, 0.0025, 0.005, 0.01, 0.025, 0.05, 0.1, 0.25, 0.5, 1.0, 2.5, 5.0, 10.0, 25.0, 60.0
-STATES = "waiting", "engines", "begun", "memory", "connections"
+STATES = "waiting", "engines", "begun", "memory", "connections", "speeds"
 # The parts of a row: requests by service and status, microseconds of each service, ranges of each service, refusals, and states.
 PARTS = len(SERVICES) * (len(STATUSES) + 1), len(SERVICES), len(SERVICES) * (len(EDGES) + 1), len(REASONS), len(STATES)
 WIDTH = sum(PARTS)
@@ -66,7 +67,12 @@ class Metrics:
         return lines
 
     def states(self, rows: Sequence[Row]) -> list[tuple[str, str, str, int]]:
-        waiting, engines, begun, memory, connections = (sum(row.of(state) for row in rows) for state in STATES)
+        waiting, engines, begun, memory, connections = (sum(row.of(state) for row in rows) for state in STATES[:-1])
+        # When the file was written whose speeds a process has, in milliseconds; 0 without such a file.
+        written = [row.of("speeds") for row in rows if row.of("speeds") and row.of("memory")]
+        ages = [
+            ("chtab_speeds_age_seconds", "gauge", "Seconds since the oldest speeds in use were written.", max(0, int(time.time() - min(written) / 1_000)))
+        ] if written else []
         return [
             ("chtab_requests_waiting", "gauge", "Requests that are underway or wait.", waiting),
             ("chtab_connections", "gauge", "Connections of clients.", connections),
@@ -74,6 +80,7 @@ class Metrics:
             ("chtab_engines_begun_total", "counter", "Runs of the program that were begun.", begun),
             ("chtab_processes", "gauge", "Processes of the service.", sum(row.of("memory") > 0 for row in rows)),
             ("chtab_resident_memory_bytes", "gauge", "Memory of the processes, without that of the runs.", memory),
+            *ages,
         ]
 
 

@@ -34,12 +34,14 @@ from chtab_server.sending import JsonAnswer, lines_of
 
 if TYPE_CHECKING:
     from chtab.files import Place
+    from chtab.network import Network
     from chtab._roads.routes import Trip
     from chtab._roads.snapping import Spots
     from chtab_server.connections import Connections
     from chtab_server.networks import Networks
     from chtab_server.osrm.answering import Answers
     from chtab_server.recording import Recorder
+    from chtab_server.speeds import Traffic
     from chtab.typing import Geojson, Point
 
 PAGE = pathlib.Path(__file__).parent / "page"
@@ -98,6 +100,7 @@ class Service:
 
     def __init__(
         self, networks: Networks, choices: Choices = Choices(), metrics: Metrics | None = None, row: int = 0, material: Material | None = None,
+        traffic: Traffic | None = None,
     ) -> None:
         first, material = networks.first, material or Material(networks, choices)
         self.networks, self.network, self.choices, self.limits = networks, first.network, choices, choices.limits
@@ -107,11 +110,14 @@ class Service:
         # How many runs were started by an earlier process at this place.
         self.begun_before = self.row.of("begun")
         self.tiles, self.osrm, self.by_name = material.tiles, material.osrm, material.by_name
+        self.renewed: tuple[list[Answers], list[Network], float]
         self.turns = Turns(self.limits.at_once, self.limits.waiting, self.limits.together)
         self.headers, self.longest_address = web_policy.headers(choices.tiles), choices.osrm.address
         self.lines = lines_of(dict([*self.headers.items(), web_policy.CACHING]))
         # Whether an engine failed, an event that makes it be checked, and whether the service is ending.
         self.is_failing, self.doubt, self.is_ending = False, asyncio.Event(), False
+        # The speeds that change while the service runs, or None, and an event that makes their file be read again.
+        self.traffic, self.renewal = traffic, asyncio.Event()
 
     @property
     def longest(self) -> int:
@@ -256,6 +262,25 @@ class Service:
             raise Refusal("InvalidValue", f"the profiles are {', '.join(name for name in self.by_name if '/' not in name)}")
         return self.by_name[profile]
 
+    def renew(self) -> None:
+        """Reads the file of speeds, and makes what answers by them; the requests of other threads are answered meanwhile. Raises a `ChtabError` or an
+        `OSError` if the file is refused: then the speeds that are in use stay."""
+        assert self.traffic is not None
+        networks, written = self.traffic.networks()
+        self.renewed = [answers.weighed(network) for answers, network in zip(self.osrm, networks)], networks, written
+
+    def exchange(self) -> None:
+        """Answers by what was made last from here on. Whatever was asked before is answered by that with which it began."""
+        assert self.traffic is not None
+        self.osrm, networks, written = self.renewed
+        self.traffic.put(networks, written)
+        self.network = networks[0]
+        self.by_name = {each.name: answers for each, answers in zip(self.networks, self.osrm) if each.name}
+        # Each knows the calls of the networks before, which are closed with their last request.
+        self.turns.paces.clear()
+        del self.renewed
+        self.note()
+
     async def page(self, request: web.Request) -> web.FileResponse:
         """The page."""
         return web.FileResponse(PAGE / "index.html")
@@ -263,7 +288,8 @@ class Service:
     async def health(self, request: web.Request) -> web.Response:
         """Whether a request that arrives now would be taken and answered. This answer doesn't wait for others."""
         state = "ending" if self.is_ending else "failing" if self.is_failing else "busy" if self.turns.is_full else "ready"
-        return web.json_response({"status": state, "waiting": self.turns.unanswered}, status=200 if state == "ready" else 503)
+        speeds = {} if self.traffic is None else {"speeds": {"age": round(self.traffic.age(), 1)}}
+        return web.json_response({"status": state, "waiting": self.turns.unanswered, **speeds}, status=200 if state == "ready" else 503)
 
     def try_engines(self) -> None:
         """Starts the engines that are not there, and asks each a question. Raises a `ChtabError` if one fails."""
@@ -284,6 +310,8 @@ class Service:
         self.row.note(waiting=self.turns.unanswered, engines=living, begun=self.begun_before + begun, memory=resident_bytes())
         if connections is not None:
             self.row.note(connections=connections)
+        if self.traffic is not None:
+            self.row.note(speeds=int(self.traffic.written * 1_000))
 
     async def describe(self, request: web.Request) -> web.Response:
         """The description of the network for the page."""
@@ -304,15 +332,15 @@ class Service:
         text = await self.answer_alone(request, self.tiles.tile, zoom, x, y)
         return web.Response(text=text, content_type="image/svg+xml", headers={"Cache-Control": "max-age=3600"})
 
-    def spots(self, places: Sequence[Point], names: Sequence[str]) -> tuple[Spots, dict[int, str]]:
+    def spots(self, network: Network, places: Sequence[Point], names: Sequence[str]) -> tuple[Spots, dict[int, str]]:
         """The spots of places, and the messages for places that are too far from each road: {index: message}. `names` are those of the places."""
-        spots = self.network.roads.find_any(*zip(*places))
+        spots = network.roads.find_any(*zip(*places))
         far = {place: metres for place, metres in enumerate(spots.metres.tolist()) if not metres <= self.limits.metres}
         return spots, {place: f"{names[place]} is {length_text(metres)} from the nearest road" for place, metres in far.items()}
 
-    def near_spots(self, places: Sequence[Point], names: Sequence[str]) -> Spots:
+    def near_spots(self, network: Network, places: Sequence[Point], names: Sequence[str]) -> Spots:
         """The spots of places. Refuses the request if one is too far from each road."""
-        spots, far = self.spots(places, names)
+        spots, far = self.spots(network, places, names)
         if far:
             raise Refused("; ".join(far.values()))
         return spots
@@ -320,11 +348,13 @@ class Service:
     def route_texts(self, pairs: Sequence[Sequence[Point]]) -> list[str | Refused]:
         """For each pair of places a Feature of GeoJSON as text, with the line of the route, or null if there is none. If a place is too far from each
         road, the item is the refusal."""
-        spots, far = self.spots([place for pair in pairs for place in pair], ENDS * len(pairs))
+        # One network, because another may take its place meanwhile.
+        network = self.network
+        spots, far = self.spots(network, [place for pair in pairs for place in pair], ENDS * len(pairs))
         starts, ends = spots[0::2], spots[1::2]
         told = {pair: [far[place] for place in (2 * pair, 2 * pair + 1) if place in far] for pair in range(len(pairs))}
         near = [pair for pair, lines in told.items() if not lines]
-        found = dict(zip(near, self.network.trip_routes(starts[near], ends[near])))
+        found = dict(zip(near, network.trip_routes(starts[near], ends[near])))
         return [
             self.route_text(found[pair], starts, ends, pair) if pair in found else Refused("; ".join(told[pair])) for pair in range(len(pairs))
         ]
@@ -343,11 +373,12 @@ class Service:
         if within is not None:
             within = int(number_in(within, 0, 2**60, "within"))
         owners = [(name, index) for name, places in lists.items() for index in range(len(places))]
-        spots, far = self.spots(sources + targets, [f"{name}[{index}]" for name, index in owners])
+        network = self.network
+        spots, far = self.spots(network, sources + targets, [f"{name}[{index}]" for name, index in owners])
         near = numpy.array([place not in far for place in range(len(owners))])
         rows, columns = numpy.split(near, [len(sources)])
         weights = numpy.full((len(sources), len(targets)), -1)
-        weights[numpy.ix_(rows, columns)] = self.network.trip_table(spots[:len(sources)][rows], spots[len(sources):][columns], within=within)
+        weights[numpy.ix_(rows, columns)] = network.trip_table(spots[:len(sources)][rows], spots[len(sources):][columns], within=within)
         cells = [[None if weight < 0 else weight for weight in row] if is_near else None for row, is_near in zip(weights.tolist(), rows)]
         faults = [
             {"list": owners[place][0], "index": owners[place][1], "metres": round(float(spots.metres[place]), 1), "error": text}
@@ -362,8 +393,9 @@ class Service:
         if not isinstance(limits, list) or not 1 <= len(limits) <= self.limits.bands:
             raise Refused(f"limits is a list of 1 to {self.limits.bands} numbers")
         limits = [int(number_in(limit, 1, 2**60, "a limit")) for limit in limits]
-        spot = self.near_spots([place_in(fields["from"], "from")], ENDS)
-        return {**self.network.isochrones(spot, limits), "unit": self.network.unit, "from": spot_of(spot, 0)}
+        network = self.network
+        spot = self.near_spots(network, [place_in(fields["from"], "from")], ENDS)
+        return {**network.isochrones(spot, limits), "unit": network.unit, "from": spot_of(spot, 0)}
 
 
 def alone(call: Callable[..., Any], *words: Any) -> Asked:

@@ -30,8 +30,8 @@ if TYPE_CHECKING:
 
 LOG = logging.getLogger("chtab.service")
 ENDING = signal.SIGINT, signal.SIGTERM
-# The signal for a process whose port another service has taken over.
-SUCCEEDED = signal.SIGUSR1
+# The signal for a process whose port another service has taken over, and the one that makes the file of speeds be read again.
+SUCCEEDED, RENEWED = signal.SIGUSR1, signal.SIGHUP
 # The seconds between two notes of states, and between two checks of the engines.
 NOTES, LOOKS = 5.0, 1.0
 # The seconds before a process that ended by itself is restarted: at first, and at most after repeated failures.
@@ -69,7 +69,7 @@ class Serving:
             auto_decompress=False,
         )
         server = await self.loop.create_server(protocols, sock=self.port.listening, backlog=BACKLOG)
-        tasks = [self.loop.create_task(each) for each in (self.connections.close_idle(), self.keep_notes(), self.keep_answering())]
+        tasks = [self.loop.create_task(each) for each in (self.connections.close_idle(), self.keep_notes(), self.keep_answering(), self.keep_speeds())]
         try:
             self.hear(parent)
             tell()
@@ -99,6 +99,8 @@ class Serving:
         for number in ENDING:
             self.loop.add_signal_handler(number, self.ended.set)
         self.loop.add_signal_handler(SUCCEEDED, self.succeeded)
+        if self.service.traffic is not None:
+            self.loop.add_signal_handler(RENEWED, self.service.renewal.set)
         if parent is not None:
             self.loop.add_reader(parent, self.ended.set)
         else:
@@ -149,6 +151,22 @@ class Serving:
                 await asyncio.sleep(LOOKS)
 
 
+    async def keep_speeds(self) -> None:
+        """Reads the file of speeds again after a signal, and once it is replaced, and exchanges what answers."""
+        service, traffic = self.service, self.service.traffic
+        while traffic is not None:
+            with contextlib.suppress(asyncio.TimeoutError):
+                await asyncio.wait_for(service.renewal.wait(), LOOKS)
+            if not service.renewal.is_set() and not traffic.is_replaced():
+                continue
+            service.renewal.clear()
+            try:
+                await self.loop.run_in_executor(None, service.renew)
+                service.exchange()
+            except (ChtabError, OSError) as fault:
+                LOG.error("%s: the speeds before stay", service.networks.told(str(fault)))
+
+
 async def serve(service: Service, port: Port, tell: Callable[[], object], parent: int | None = None) -> int:
     """Serves at a port until a signal arrives, and returns the exit status."""
     return await Serving(service, port).run(tell, parent)
@@ -173,8 +191,9 @@ class Family:
     replaces names of files by those that the user knows.
     """
 
-    def __init__(self, count: int, make: Callable[[int], Service], metrics: Metrics, port: Port, told: Callable[[str], str]) -> None:
+    def __init__(self, count: int, make: Callable[[int], Service], metrics: Metrics, port: Port, told: Callable[[str], str], has_speeds: bool = False) -> None:
         self.count, self.make, self.metrics, self.port, self.told = count, make, metrics, port, told
+        self.has_speeds = has_speeds
         self.children: dict[int, Child] = {}
         self.is_ending, self.status = False, 0
         # For each place how often a process failed to serve there, and when the next one is started.
@@ -187,6 +206,8 @@ class Family:
             signal.signal(number, self.end)
         # This signal must not end a process that doesn't handle it yet.
         signal.signal(SUCCEEDED, signal.SIG_IGN)
+        if self.has_speeds:
+            signal.signal(RENEWED, self.renew)
         is_told = False
         while self.children or not self.is_ending:
             self.begin_due()
@@ -237,6 +258,9 @@ class Family:
         try:
             for number in ENDING:
                 signal.signal(number, signal.SIG_DFL)
+            if self.has_speeds:
+                # Until the loop hears it, when the file is looked at anyway.
+                signal.signal(RENEWED, signal.SIG_IGN)
             signal.pthread_sigmask(signal.SIG_UNBLOCK, ENDING)
             # Only the first process hands the port over.
             self.port.control.close()
@@ -280,6 +304,12 @@ class Family:
         pause = min(PAUSE * 2 ** max(0, self.failures[child.place] - TRIES), LONGEST_PAUSE)
         self.due[child.place] = time.monotonic() + pause
         print(f"chtab-page: process {child.number} ended, and is restarted", file=sys.stderr)
+
+    def renew(self, *_: object) -> None:
+        """Lets all processes read the file of speeds again."""
+        for number in list(self.children):
+            with contextlib.suppress(ProcessLookupError):
+                os.kill(number, RENEWED)
 
     def end(self, *_: object) -> None:
         """Ends all processes, each once it has answered the requests that are underway."""

@@ -30,6 +30,10 @@ class Handle(ctypes.Structure):
     _fields_ = [("is_open", ctypes.c_uint64), ("engine", ctypes.c_void_p)]
 
 
+class Topology(ctypes.Structure):
+    _fields_ = [("is_open", ctypes.c_uint64), ("topology", ctypes.c_void_p)]
+
+
 class Fault(ctypes.Structure):
     _fields_ = [("line", ctypes.c_uint64), ("place", ctypes.c_uint64), ("kind", ctypes.c_uint32)]
 
@@ -89,6 +93,38 @@ class Library:
         handle, fault = handle or Handle(), Fault()
         given = ctypes.byref(handle), graph, ctypes.c_size_t(len(graph)), ctypes.byref(other), ctypes.c_uint32(fresh), ctypes.byref(fault)
         return self.calls.chtab_open_like(*given), handle, fault
+
+    def topology_open(self, graph, order=b"", topology=None):
+        """The status, the topology and the fault."""
+        topology, fault = topology or Topology(), Fault()
+        given = graph, ctypes.c_size_t(len(graph)), order, ctypes.c_size_t(len(order)), ctypes.byref(fault)
+        return self.calls.chtab_topology_open(ctypes.byref(topology), *given), topology, fault
+
+    def topology_open_arrays(self, nodes, tails, heads, order=b"", topology=None):
+        """The status, the topology and the fault. The arrays are lists, or arrays of C that are ready."""
+        topology, fault = topology or Topology(), Fault()
+        arrays = [word for items in (tails, heads) for word in (items if isinstance(items, ctypes.Array) else numbers(items), ctypes.c_size_t(len(items)))]
+        given = ctypes.c_uint32(nodes), *arrays, order, ctypes.c_size_t(len(order)), ctypes.byref(fault)
+        return self.calls.chtab_topology_open_arrays(ctypes.byref(topology), *given), topology, fault
+
+    def topology_share(self, topology, other):
+        return self.calls.chtab_topology_share(ctypes.byref(topology), ctypes.byref(other))
+
+    def topology_order(self, topology, room):
+        """The status and the nodes, in which 7 stands where nothing was written."""
+        order = numbers([7] * (room + 1))
+        status = self.calls.chtab_topology_order(ctypes.byref(topology), order, ctypes.c_size_t(room))
+        assert order[room] == 7, "a node past the room is written"
+        return status, list(order)[:room]
+
+    def topology_close(self, topology):
+        return self.calls.chtab_topology_close(ctypes.byref(topology))
+
+    def customized(self, topology, weights, handle=None):
+        """The status, the handle and the fault."""
+        handle, fault = handle or Handle(), Fault()
+        given = numbers(weights, ctypes.c_uint64), ctypes.c_size_t(len(weights)), ctypes.byref(fault)
+        return self.calls.chtab_customized(ctypes.byref(handle), ctypes.byref(topology), *given), handle, fault
 
     def close(self, handle):
         return self.calls.chtab_close(ctypes.byref(handle))

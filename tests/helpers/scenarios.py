@@ -1,5 +1,9 @@
-"""For the tests of networks that are made of others: a small network, a map where turns are restricted, and right answers."""
+"""For the tests of networks that are made of others: both ways to make them, a small network, a map where turns are restricted, and right answers."""
+import contextlib
+import functools
 import pathlib
+
+import pytest
 
 from helpers import maps
 from helpers.running import PROGRAM
@@ -10,6 +14,23 @@ from chtab import files
 # Two parallel roads from an inn to a mill, a bridge from there to a school, and a way round.
 ARCS = ["inn", "inn", "mill", "inn", "farm"], ["mill", "mill", "school", "farm", "school"], [2.0, 3.0, 1.5, 4.0, 4.5]
 PLACES = {"nodes": ["farm", "inn", "mill", "school"], "x": [9.48, 9.50, 9.52, 9.54], "y": [47.09, 47.10, 47.11, 47.12]}
+
+
+@pytest.fixture(params=["built", "customized"])
+def each_way(request, monkeypatch):
+    """Changed networks are built in the order of the one that was there, or their weights are customized where that can be done."""
+    if request.param == "customized":
+        changed = chtab.Network.changed
+
+        @functools.wraps(changed)
+        def customized(self, *given, **named):
+            # An order with too many triangles, and a closed network, are left as they are.
+            with contextlib.suppress(chtab.ChtabError):
+                self.customizable()
+            return changed(self, *given, **named)
+
+        monkeypatch.setattr(chtab.Network, "changed", customized)
+    return request.param
 
 
 def of_roads(**more):

@@ -15,10 +15,11 @@ from pathlib import Path
 sys.path.insert(0, str(Path(__file__).resolve().parent.parent))
 
 from helpers.cases import Case  # noqa: E402
-from helpers.in_process import ALL, NO_DISTANCE, Handle, Library, statuses  # noqa: E402
+from helpers.in_process import ALL, NO_DISTANCE, Handle, Library, Topology, statuses  # noqa: E402
 from helpers.running import Count  # noqa: E402
 from oracles.dijkstra import arcs_ahead, distances_from  # noqa: E402
 from oracles.rules import hierarchy_text  # noqa: E402
+from oracles.topologies import triangles_of  # noqa: E402
 
 STATUS = statuses()
 # What a change of a file's bytes may put there.
@@ -48,6 +49,8 @@ class Caller:
         # The least weights and numbers of arcs, from each node to each, or None.
         self.away = [[case.costs[source].get(target) for target in range(1, case.nodes + 1)] for source in range(1, case.nodes + 1)]
         self.handles = [Handle(), Handle()]
+        # Two topologies of the graph, and the order of each that is open.
+        self.topologies, self.orders = [Topology(), Topology()], {}
         # What each handle keeps: the places, the limit, the count and the direction.
         self.kept = {}
 
@@ -146,6 +149,81 @@ class Caller:
             owed = [away.get(target + 1, NO_DISTANCE) for target in range(count)]
             self.expect(self.library.table(handle, [source], range(count)) == (STATUS["OK"], owed), "a table by new weights", source, fresh, graph)
         self.expect(self.library.close(handle) == STATUS["OK"], "closed what was opened like")
+
+    def open_topology(self):
+        """A topology of the graph or of its arrays, in an order that is found, given, or changed; one that is refused stays closed."""
+        topology, order = self.draw.choice(self.topologies), self.draw.sample(range(self.count), self.count)
+        named = "".join([f"p ch {self.count} 0\n", *(f"o {node + 1}\n" for node in order)]).encode()
+        given, is_by_arrays = self.draw.choice((b"", named, named, self.saved, changed(self.draw, named))), self.draw.random() < 0.5
+        graph = changed(self.draw, self.graph) if self.draw.random() < 0.1 and not is_by_arrays else self.graph
+        is_open, ends = topology.is_open, [[arc[end] - 1 for arc in self.arcs] for end in range(2)]
+        if is_by_arrays:
+            status, _, fault = self.library.topology_open_arrays(self.count, *ends, given, topology)
+        else:
+            status, _, fault = self.library.topology_open(graph, given, topology)
+        if is_open:
+            names = {"IS_OPEN"}
+        elif graph != self.graph or given not in (b"", named):
+            names = {"OK", "BAD_GRAPH", "BAD_SAVED", "WRONG_SAVED", "TRIANGLES"}
+        else:
+            is_few = not given or triangles_of(self.count, self.arcs, order) <= 40 * self.count
+            names = {"OK" if is_few else "TRIANGLES"}
+        self.expect(status in [STATUS[name] for name in names], "opened a topology", graph, given, status, names)
+        has_fault = status in [STATUS[name] for name in ("BAD_GRAPH", "BAD_SAVED", "WRONG_SAVED")]
+        self.expect((fault.told() != (0, 0, 0)) == has_fault, "what is told of a topology", status, fault.told())
+        if is_open or status != STATUS["OK"]:
+            self.expect(bool(topology.is_open) == bool(is_open), "a topology that is not opened stays", status)
+        elif graph != self.graph:
+            self.expect(self.library.topology_close(topology) == STATUS["OK"], "closed a topology of another graph")
+        else:
+            self.orders[id(topology)] = self.library.topology_order(topology, self.count)
+            found = (STATUS["OK"], order) if given == named else self.orders[id(topology)]
+            self.expect(self.orders[id(topology)] == found and sorted(found[1]) == [*range(self.count)], "an order", given, found)
+
+    def share_or_close_topology(self):
+        topology, other = self.topologies if self.draw.random() < 0.5 else self.topologies[::-1]
+        if self.draw.random() < 0.5:
+            wanted = STATUS["OK" if topology.is_open else "CLOSED"]
+            self.expect(self.library.topology_close(topology) == wanted and not topology.is_open, "closed a topology", wanted)
+            return
+        wanted = STATUS["IS_OPEN" if other.is_open else "OK" if topology.is_open else "CLOSED"]
+        self.expect(self.library.topology_share(topology, other) == wanted, "shared a topology", wanted)
+        if wanted == STATUS["OK"]:
+            self.orders[id(other)] = self.orders[id(topology)]
+
+    def ask_order(self):
+        topology, room = self.draw.choice(self.topologies), self.count if self.draw.random() < 0.8 else self.draw.randrange(9)
+        owed = STATUS["CLOSED"], [7] * room
+        if topology.is_open:
+            owed = self.orders[id(topology)] if room == self.count else (STATUS["LENGTHS"], [7] * room)
+        self.expect(self.library.topology_order(topology, room) == owed, "an order", room, owed)
+
+    def customize(self):
+        """A network of new weights on the arcs of a topology, which answers for these; the topology stays."""
+        topology, handle = self.draw.choice(self.topologies), self.draw.choice(self.handles)
+        most = self.draw.choice((1, 9, 1_000_000))
+        weights = [self.draw.randrange(most) for _ in range(len(self.arcs) + self.draw.choice((0,) * 18 + (1, -1)))]
+        if weights and self.draw.random() < 0.2:
+            weights[self.draw.randrange(len(weights))] = self.draw.choice((2**64 - 1, 2**60 // self.count + 1))
+        is_open, large = handle.is_open, [place for place, weight in enumerate(weights) if self.count * weight > 2**60]
+        status, _, fault = self.library.customized(topology, weights, handle)
+        name, told = "OK", (0, 0, 0)
+        if is_open or not topology.is_open:
+            name = "IS_OPEN" if is_open else "CLOSED"
+        elif len(weights) != len(self.arcs):
+            name = "LENGTHS"
+        elif large:
+            name, told = "BAD_GRAPH", (0, large[0], 7)
+        self.expect((status, fault.told()) == (STATUS[name], told), "customized", weights, status, fault.told(), name)
+        if name != "OK":
+            self.expect(bool(handle.is_open) == bool(is_open), "a handle that is not customized stays", status)
+            return
+        ahead, source = arcs_ahead([(start, end, weight) for (start, end, _), weight in zip(self.arcs, weights)]), self.draw.randrange(self.count)
+        away = distances_from(source + 1, ahead)
+        owed = [away.get(target + 1, NO_DISTANCE) for target in range(self.count)]
+        self.expect(self.library.table(handle, [source], range(self.count)) == (STATUS["OK"], owed), "a table by new weights", source, weights)
+        self.expect(self.library.close(handle) == STATUS["OK"], "closed what was customized")
+        self.kept.pop(id(handle), None)
 
     def open_or_close(self):
         handle = self.draw.choice(self.handles)
@@ -404,14 +482,17 @@ class Caller:
     def close(self):
         for handle in self.handles:
             self.library.close(handle)
+        for topology in self.topologies:
+            self.library.topology_close(topology)
 
     def call(self):
         calls = (
             self.open_changed, self.open_or_close, self.share, self.ask_nodes, self.ask_distances, self.ask_table, self.ask_route,
             self.keep_places, self.sweep, self.ask_near, self.save, self.ask_routes, self.ask_sums, self.open_like,
             self.ask_route_sums, self.ask_flows, self.ask_flows_table, self.open_arrays, self.open_quick,
+            self.open_topology, self.share_or_close_topology, self.ask_order, self.customize,
         )
-        self.draw.choices(calls, (20, 5, 3, 2, 20, 15, 15, 10, 3, 20, 5, 20, 15, 10, 15, 15, 15, 10, 10))[0]()
+        self.draw.choices(calls, (20, 5, 3, 2, 20, 15, 15, 10, 3, 20, 5, 20, 15, 10, 15, 15, 15, 10, 10, 10, 5, 3, 20))[0]()
 
 
 def memory():

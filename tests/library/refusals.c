@@ -12,7 +12,7 @@
 #include <stdlib.h>
 #include <string.h>
 
-enum { MOST_NODES = 100000 };
+enum { MOST_NODES = 100000, FEW_NODES = 1000 };
 
 /* Requests before the one that is refused, or -1 where none is; and whether those after it are refused too. */
 static long granted = -1;
@@ -54,6 +54,7 @@ static struct {
     uint8_t *graph, *saved, *text;
     size_t graph_len, saved_len;
     chtab network, other;
+    chtab_topology topology, second;
     chtab_found found;
     uint32_t ends[8], targets[8];
     uint32_t nodes[MOST_NODES];
@@ -103,6 +104,37 @@ static uint32_t open_like(void) {
     chtab_fault fault = {9, 9, 9};
     uint32_t status = chtab_open_like(&g.other, g.graph, g.graph_len, &g.network, CHTAB_FRESH, &fault), count;
     expect(chtab_nodes(&g.network, &count) == CHTAB_OK, "the handle that gives its order stays open");
+    if (status) expect(!fault.line && !fault.place && !fault.kind && chtab_nodes(&g.other, &count) == CHTAB_CLOSED, "a handle stays closed");
+    return status;
+}
+
+/* The topology of the graph, in an order that is found, or in that of the saved hierarchy. */
+static uint32_t open_topology(void) {
+    chtab_fault fault = {9, 9, 9};
+    uint32_t status = chtab_topology_open(&g.topology, g.graph, g.graph_len, g.saved, g.saved_len, &fault);
+    if (status) expect(!fault.line && !fault.place && !fault.kind && chtab_topology_order(&g.topology, g.nodes, 0) == CHTAB_CLOSED, "a topology stays closed");
+    return status;
+}
+
+static uint32_t open_topology_arrays(void) {
+    chtab_fault fault = {9, 9, 9};
+    uint32_t status = chtab_topology_open_arrays(&g.second, g.count, g.tails, g.arcs, g.heads, g.arcs, g.saved, g.saved_len, &fault);
+    if (status) expect(!fault.line && !fault.place && !fault.kind && chtab_topology_order(&g.second, g.nodes, 0) == CHTAB_CLOSED, "a topology stays closed");
+    return status;
+}
+
+static uint32_t share_topology(void) {
+    uint32_t status = chtab_topology_share(&g.topology, &g.second);
+    expect(chtab_topology_order(&g.topology, g.nodes, g.count) == CHTAB_OK, "the shared topology stays open");
+    if (status) expect(chtab_topology_order(&g.second, g.nodes, 0) == CHTAB_CLOSED, "the other topology stays closed");
+    return status;
+}
+
+/* The weights of the graph on its topology, which stays as it is. */
+static uint32_t customize(void) {
+    chtab_fault fault = {9, 9, 9};
+    uint32_t status = chtab_customized(&g.other, &g.topology, g.values, g.arcs, &fault), count;
+    expect(chtab_topology_order(&g.topology, g.nodes, g.count) == CHTAB_OK, "the topology stays open");
     if (status) expect(!fault.line && !fault.place && !fault.kind && chtab_nodes(&g.other, &count) == CHTAB_CLOSED, "a handle stays closed");
     return status;
 }
@@ -313,6 +345,9 @@ static void refuse_each(uint32_t (*call)(void), void (*undo)(void), const char *
 static void close_network(void) { expect(chtab_close(&g.network) == CHTAB_OK, "close"); }
 static void close_other(void) { expect(chtab_close(&g.other) == CHTAB_OK, "close"); }
 
+static void close_topology(void) { expect(chtab_topology_close(&g.topology) == CHTAB_OK, "close a topology"); }
+static void close_second(void) { expect(chtab_topology_close(&g.second) == CHTAB_OK, "close a second topology"); }
+
 static uint8_t *bytes_of(const char *path, size_t *len) {
     FILE *file = fopen(path, "rb");
     uint8_t *bytes = (uint8_t *)malloc(1 << 24);
@@ -385,11 +420,23 @@ static void refuse_questions(void) {
     close_network();
 }
 
+/* A topology takes memory for each node, so that there are too many requests on a large network. */
+static void refuse_topologies(void) {
+    refuse_each(open_topology, close_topology, "open a topology");
+    refuse_each(open_topology_arrays, close_second, "open a topology by arrays");
+    expect(open_topology() == CHTAB_OK, "open a topology");
+    refuse_each(share_topology, close_second, "share a topology");
+    refuse_each(customize, close_other, "customize");
+    close_topology();
+}
+
+/* What is opened by arrays, and topologies. */
 static void refuse_arrays(void) {
     expect(open_network() == CHTAB_OK && chtab_nodes(&g.network, &g.count) == CHTAB_OK, "open");
     close_network();
     read_values();
     refuse_each(open_arrays, close_network, "open by arrays");
+    if (g.count <= FEW_NODES) refuse_topologies();
     free_values();
 }
 

@@ -8,13 +8,13 @@ from helpers import columns, maps
 from helpers.commands import raises
 from helpers.marks import needs
 from helpers.running import PROGRAM
-from helpers.scenarios import trips_of, with_turns
+from helpers.scenarios import each_way, trips_of, with_turns  # noqa: F401
 from oracles import dijkstra
 import chtab
 from chtab import files
 from chtab_server.osrm.nearby import find_facing
 
-pytestmark = [needs("python3-numpy"), pytest.mark.usefixtures("program")]
+pytestmark = [needs("python3-numpy"), pytest.mark.usefixtures("program", "each_way")]
 
 
 def ladder(draw):

@@ -14,7 +14,7 @@ from helpers.commands import raises, temporary
 from helpers.in_process import make
 from helpers.marks import needs
 from helpers.running import PROGRAM, ROOT
-from helpers.scenarios import PLACES, least_of, of_roads, trips_of, with_turns
+from helpers.scenarios import PLACES, each_way, least_of, of_roads, trips_of, with_turns  # noqa: F401
 from helpers.waiting import PATIENCE
 import chtab
 from chtab._engine import library as calls
@@ -22,7 +22,7 @@ from chtab._engine import making
 from chtab._files import arc_columns
 from chtab._roads import from_arcs, scenarios
 
-pytestmark = [needs("python3-numpy"), pytest.mark.usefixtures("program")]
+pytestmark = [needs("python3-numpy"), pytest.mark.usefixtures("program", "each_way")]
 
 
 @needs("python3-scipy", "python3-pandas")
@@ -57,6 +57,7 @@ def test_networks_in_the_order_of_others_answer_as_scipy():
         network.close()
 
 
+@pytest.mark.parametrize("each_way", ["built"], indirect=True)
 @pytest.mark.parametrize("is_by_library", [True, False])
 def test_it_is_built_in_the_order_of_the_other(library, is_by_library):
     """With no node afresh the new hierarchy has the order of the old one, with all afresh that by depth; so in this process, and by a run."""
@@ -285,6 +286,7 @@ def test_the_old_network_may_close_at_any_step(monkeypatch):
     assert passed
 
 
+@pytest.mark.parametrize("each_way", ["built"], indirect=True)
 def test_the_program_builds_in_the_order_of_another_network():
     """By several workers, or with progress: of the saved hierarchy of the other one, and if that is gone, in this process. Other faults stay faults."""
     program = pathlib.Path("chtab")

@@ -13,12 +13,12 @@ import pytest
 from helpers.commands import raises, temporary
 from helpers.marks import needs
 from helpers.running import PROGRAM, ROOT
-from helpers.scenarios import ARCS, least_of, of_roads
+from helpers.scenarios import ARCS, each_way, least_of, of_roads  # noqa: F401
 from helpers.waiting import PATIENCE
 import chtab
 from chtab import files
 
-pytestmark = [needs("python3-numpy"), pytest.mark.usefixtures("program")]
+pytestmark = [needs("python3-numpy"), pytest.mark.usefixtures("program", "each_way")]
 
 
 @needs("python3-scipy", "python3-pandas")
@@ -309,6 +309,7 @@ def test_both_answer_at_once():
         assert found == [2.0, 9.0] * 50
 
 
+@pytest.mark.parametrize("each_way", ["built"], indirect=True)
 def test_a_change_that_fails_leaves_nothing():
     """A program that fails while it builds leaves no files, and the old network answers on."""
     with temporary() as left, of_roads(workers=2) as network:

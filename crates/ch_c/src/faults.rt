@@ -61,20 +61,20 @@ fn fault_of(error: OpenError) -> Fault
     }
 }
 
-fn at(kind: u32, line: u64, place: u64) -> Fault
+pub(crate) fn at(kind: u32, line: u64, place: u64) -> Fault
     ensures { result ≡ record { line = line; place = place; kind = kind } }
 {
     Fault { line, place, kind }
 }
 
-fn fault_of_read(fault: ReadFault) -> Fault
+pub(crate) fn fault_of_read(fault: ReadFault) -> Fault
     ensures { result ≡ record { line = fault.line; place = 0; kind = the_number fault.kind } }
 {
     at(kind_number(fault.kind), fault.line, 0)
 }
 
 /// Returns the fault of arrays, with the kind that a file with these arcs would have.
-fn fault_of_arrays(fault: GraphFault) -> Fault
+pub(crate) fn fault_of_arrays(fault: GraphFault) -> Fault
     ensures { result ≡ arrays_fault fault }
 {
     match fault {

@@ -10,12 +10,14 @@
 
 mod answers;
 mod erased;
+mod erased_topology;
 mod faults;
 mod handle;
 mod near;
 mod opening;
 mod raw_box;
 mod status;
+mod topology;
 
 pub use faults::Fault;
 pub use handle::{
@@ -27,3 +29,7 @@ pub use opening::{
     chtab_close, chtab_open, chtab_open_arrays, chtab_open_like, chtab_open_quick, chtab_share,
 };
 pub use status::numbers;
+pub use topology::{
+    TopologyHandle, chtab_customized, chtab_topology_close, chtab_topology_open,
+    chtab_topology_open_arrays, chtab_topology_order, chtab_topology_share,
+};

@@ -49,6 +49,9 @@ pub(crate) const OTHER_NODES: u32 = 13;
 /// More than 100 per cent of the nodes would be ordered afresh.
 pub(crate) const FRESH_RANGE: u32 = 14;
 
+/// The order of a topology has too many triangles.
+pub(crate) const TRIANGLES: u32 = 15;
+
 /// Returns the status of a refusal.
 pub(crate) fn status_of(refusal: Refusal) -> u32
     ensures { result ≡ refusal_status refusal }
@@ -79,4 +82,5 @@ pub fn numbers()
     ensures sum_too_large { SUM_TOO_LARGE ≡ 12 }
     ensures other_nodes { OTHER_NODES ≡ 13 }
     ensures fresh_range { FRESH_RANGE ≡ 14 }
+    ensures triangles { TRIANGLES ≡ 15 }
 {}

@@ -42,7 +42,7 @@ pub fn dissect<R: Threads + Sync, G: Gate>(
 }
 
 /// Appends the nodes of a core in the order of its parts.
-fn push_names(core: &Core, parts: &Parts, order: &mut Vec<u32>) -> Result<(), AllocError>
+pub(crate) fn push_names(core: &Core, parts: &Parts, order: &mut Vec<u32>) -> Result<(), AllocError>
     requires { parts.now.count ≡ core.now.rows.count }
 {
     for place in 0..parts.nodes.len() {

@@ -4,10 +4,11 @@
 //! neighbours are taken out, in rounds. What is left is cut in two by a small set of nodes, the *separator*, which
 //! comes last in the order. Both sides are cut again, until few nodes are left.
 //!
-//! Proved for every graph: [`dissect`] ends, and its order has each node exactly once. It is refused only if there is
-//! no memory. How small the separators are is measured, and not proved.
+//! Proved for every graph: [`dissect`] and [`dissect_alone`] end, and their order has each node exactly once. They are
+//! refused only if there is no memory. How small the separators are is measured, and not proved.
 #![tactic(auto)]
 
+mod alone;
 mod chains;
 mod core_rows;
 mod cutter;
@@ -23,4 +24,5 @@ mod sharing;
 mod small;
 mod walk;
 
+pub use alone::dissect_alone;
 pub use dissection::dissect;

@@ -9,9 +9,11 @@ mod LineFlows
 mod LineOfPair
 mod Bounds
 mod BuiltLike
+mod Orders
 mod RouteLines
 mod RouteSums
 mod Rows
+mod SameEnds
 mod SeenLines
 pub mod NearRows
 mod MeetingTrees

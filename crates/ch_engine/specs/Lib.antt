@@ -11,3 +11,4 @@ pub mod Sums
 pub mod Opened
 pub mod PathTrees
 pub mod Flows
+pub mod Topologies

@@ -123,7 +123,7 @@ impl Engine {
         Ok(Engine::of(alloc, network)?)
     }
 
-    fn of(alloc: Global, network: Network) -> Result<Engine, AllocError>
+    pub(crate) fn of(alloc: Global, network: Network) -> Result<Engine, AllocError>
         ensures { IfOk result (λ held. held ≡ only network.0 network.1) }
     {
         let nodes = network.hierarchy().nodes();

@@ -18,7 +18,7 @@ from typing import TYPE_CHECKING, Any, NoReturn, TypeAlias
 import numpy
 
 from chtab._engine import forks
-from chtab.errors import ChtabError, ProgramFault
+from chtab.errors import ChtabError, DataFault, ProgramFault
 
 if TYPE_CHECKING:
     from numpy.typing import ArrayLike, DTypeLike, NDArray
@@ -29,7 +29,7 @@ VERSION = 1_003_000
 NAME = "libchtab.so.1"
 # The statuses of calls, as in `chtab_status` of the header.
 OK, NO_MEMORY, CLOSED, IS_OPEN, NODE_RANGE, LENGTHS, TOO_LARGE, TOO_SHORT, BAD_GRAPH, BAD_SAVED, WRONG_SAVED, NO_PLACES, SUM_TOO_LARGE, \
-    OTHER_NODES, FRESH_RANGE = range(15)
+    OTHER_NODES, FRESH_RANGE, TRIANGLES = range(16)
 # The limit that excludes no distance, and the distance where there is no walk, which is -1 as a signed number of 64 bits.
 NO_LIMIT = NO_DISTANCE = 2**64 - 1
 # The number of places of a near row that excludes none, and the line for a node that no arc leads to.
@@ -40,6 +40,10 @@ KINDS = (
     "size too large", "too many lines", "too few lines", "order", "pair", "bound", "base", "middle", "arc", "lower",
 )
 GONE = "the network is closed"
+DENSE = (
+    "the network has more than 40 triangles a node in this order, so that its weights can't be "
+    "customized in little time"
+)
 # Up to this many pairs are asked for without arrays.
 FEW = 16
 
@@ -56,6 +60,12 @@ class Block(ctypes.Structure):
     _fields_ = [("is_open", ctypes.c_uint64), ("engine", ctypes.c_void_p)]
 
 
+class TopologyBlock(ctypes.Structure):
+    """`struct chtab_topology`: 16 bytes, whose meaning only the library knows."""
+
+    _fields_ = [("is_open", ctypes.c_uint64), ("topology", ctypes.c_void_p)]
+
+
 class Fault(ctypes.Structure):
     """`struct chtab_fault`."""
 
@@ -69,7 +79,7 @@ class Found(ctypes.Structure):
 
 
 ARRAY = ctypes.c_void_p, ctypes.c_size_t
-HANDLE = ctypes.POINTER(Block)
+HANDLE, TOPOLOGY = ctypes.POINTER(Block), ctypes.POINTER(TopologyBlock)
 # The arguments of each call. `CDLL` lets other threads run during a call.
 CALLS = {
     "chtab_open": (HANDLE, ctypes.c_char_p, ctypes.c_size_t, ctypes.c_char_p, ctypes.c_size_t, ctypes.POINTER(Fault)),
@@ -79,6 +89,14 @@ CALLS = {
     ),
     "chtab_open_quick": (HANDLE, ctypes.c_char_p, ctypes.c_size_t, ctypes.POINTER(Fault)),
     "chtab_open_like": (HANDLE, ctypes.c_char_p, ctypes.c_size_t, HANDLE, ctypes.c_uint32, ctypes.POINTER(Fault)),
+    "chtab_topology_open_arrays": (
+        TOPOLOGY, ctypes.c_uint32, *ARRAY, *ARRAY, ctypes.c_char_p, ctypes.c_size_t,
+        ctypes.POINTER(Fault),
+    ),
+    "chtab_topology_share": (TOPOLOGY, TOPOLOGY),
+    "chtab_topology_order": (TOPOLOGY, *ARRAY),
+    "chtab_topology_close": (TOPOLOGY,),
+    "chtab_customized": (HANDLE, TOPOLOGY, *ARRAY, ctypes.POINTER(Fault)),
     "chtab_share": (HANDLE, HANDLE),
     "chtab_close": (HANDLE,),
     "chtab_nodes": (HANDLE, ctypes.POINTER(ctypes.c_uint32)),
@@ -192,8 +210,8 @@ def columns_of(
     return nodes_of(tails, count), nodes_of(heads, count), unsigned
 
 
-def close(call: Callable[[Any], int], block: Block, owner: int) -> None:
-    """Closes an open handle, unless this process was forked from its owner."""
+def close(call: Callable[[Any], int], block: Block | TopologyBlock, owner: int) -> None:
+    """Closes an open handle or topology, unless this process was forked from its owner."""
     if os.getpid() == owner:
         call(ctypes.byref(block))
 
@@ -264,6 +282,19 @@ class Handle:
         first, second = sorted((self.lock, other.lock), key=id)
         with first, second:
             status = self.calls.chtab_open_like(self.at, graph, len(graph), other.at, fresh, ctypes.byref(fault))
+        if status:
+            raise fault_of(status, fault)
+
+    def customized(self, topology: Topology, weights: Unsigned) -> None:
+        """Opens the network of the arcs of a topology where arc k weighs `weights[k]`, a column of
+        uint64. The topology can't be asked meanwhile, and stays as it is.
+
+        Raises a `ProgramFault` if a weight is too large, and a `ValueError` if there is not one for
+        each arc.
+        """
+        fault, given = Fault(), (address(weights, numpy.uint64), len(weights))
+        with topology.lock, self.lock:
+            status = self.calls.chtab_customized(self.at, topology.at, *given, ctypes.byref(fault))
         if status:
             raise fault_of(status, fault)
 
@@ -438,6 +469,67 @@ class Handle:
         call = self.calls.chtab_near_sums
         see_that_done(self.ask(call, *given, ctypes.byref(count), written(sums, NUMBER)))
         return sums.reshape(len(sources), len(limits))
+
+
+class Topology:
+    """The arcs of a graph without their weights, in an order of the nodes in which new weights take
+    little time; calls of several threads wait for one another.
+
+    It is closed by `close`, and when it is no longer used. It can't be copied or pickled.
+    """
+
+    def __init__(self, calls: ctypes.CDLL) -> None:
+        self.calls, self.block, self.lock = calls, TopologyBlock(), threading.RLock()
+        self.at = ctypes.byref(self.block)
+        ending = weakref.finalize(self, close, calls.chtab_topology_close, self.block, os.getpid())
+        ending.atexit = False
+
+    def __reduce__(self) -> NoReturn:
+        raise TypeError("a topology is neither copied nor pickled")
+
+    def open_arrays(
+        self, nodes: int, tails: Nodes, heads: Nodes, order: bytes | None = None,
+    ) -> None:
+        """Opens the topology of the arcs from `tails[k]` to `heads[k]`, nodes from 0 on, in the
+        order that the bytes name: those of a saved hierarchy, or of its lines `p` and `o`. Without
+        `order` the library finds a nested dissection order.
+
+        Raises a `ProgramFault` if the arcs or the bytes are refused, and a `DataFault` if new
+        weights would take too long in this order.
+        """
+        if order is not None and type(order) is not bytes:
+            raise TypeError("files are bytes")
+        if type(nodes) is not int or not 0 <= nodes < 2**32 or len(tails) != len(heads):
+            raise ValueError("a graph has a number of nodes, and columns of one length")
+        ends = address(tails, numpy.uint32), len(tails), address(heads, numpy.uint32), len(heads)
+        given, fault = given_bytes(order), Fault()
+        with self.lock:
+            words = self.at, nodes, *ends, given, len(given), ctypes.byref(fault)
+            status = self.calls.chtab_topology_open_arrays(*words)
+        if status == TRIANGLES:
+            raise DataFault(DENSE, "order")
+        see_that_opened(status, fault, order)
+
+    def order(self, nodes: int) -> Nodes:
+        """The nodes in order, from 0 on: uint32."""
+        order = numpy.empty(nodes, numpy.uint32)
+        with self.lock:
+            room = address(order, numpy.uint32, True), len(order)
+            see_that_done(self.calls.chtab_topology_order(self.at, *room))
+        return order
+
+    def share(self) -> Topology:
+        """Makes another topology of the same arcs, for another thread or another network."""
+        other = Topology(self.calls)
+        with self.lock:
+            see_that_done(self.calls.chtab_topology_share(self.at, other.at))
+        return other
+
+    def close(self) -> None:
+        """Closes the topology, once the call that is under way has ended. Further calls are
+        refused."""
+        with self.lock:
+            self.calls.chtab_topology_close(self.at)
 
 
 def see_that_done(status: int) -> None:

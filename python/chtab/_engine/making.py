@@ -21,6 +21,7 @@ from chtab._files.node_labels import Labels, fixed
 if TYPE_CHECKING:
     import ctypes
 
+    from chtab._engine.customizing import Customizing
     from chtab._engine.in_process import InProcess
     from chtab._engine.library import Handle
     from chtab._engine.opening import Running
@@ -31,6 +32,9 @@ if TYPE_CHECKING:
 GRAPH, SAVED, COORDINATES, BENDS, LABELS = (
     "network.gr", "network.ch", "network.co", "network.bends", "network.json")
 NAMES, STREETS, WAYS = "network.nodes", "network.names", "network.ways"
+# The file of the order in which its weights are customized, in the folder of a network for which
+# `customizable` was called.
+ORDER = "network.order"
 # The text of a hierarchy mostly has fewer bytes than this for each node and arc.
 BYTES = 64
 
@@ -86,6 +90,8 @@ def write(
             files.write_bends(bends, arcs.bends)
     with naming(labels):
         files.write_labels(labels, labelling_of(arcs, digest_of(graph)))
+    if running.customizing is not None:
+        return save_customized(arcs, folder, running.customizing)
     if running.like is None and running.workers == 1 and not running.progress:
         return save_alone(arcs, calls, saved)
     return build(program, graph, saved, running)
@@ -162,6 +168,18 @@ def save_alone(arcs: Arcs, calls: ctypes.CDLL, saved: str) -> Handle:
     interruptible(LONG, handle.open_arrays, nodes, *columns)
     with naming(saved), open(saved, "wb") as out:
         out.write(handle.save(BYTES * (nodes + len(arcs.tails))))
+    return handle
+
+
+def save_customized(arcs: Arcs, folder: str, customizing: Customizing) -> Handle:
+    """Customizes the weights of arcs, and saves their hierarchy and its order. Returns a handle of
+    its network."""
+    handle = customizing.handle(arcs.weights)
+    saved, order = (os.path.join(folder, name) for name in (SAVED, ORDER))
+    with naming(saved), open(saved, "wb") as out:
+        out.write(handle.save(BYTES * (arcs.labels.count + len(arcs.tails))))
+    with naming(order):
+        customizing.keep(order)
     return handle
 
 

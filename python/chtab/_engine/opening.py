@@ -17,6 +17,7 @@ from chtab.errors import ChtabError
 from chtab._files import measures
 
 if TYPE_CHECKING:
+    from chtab._engine.customizing import Customizing
     from chtab._engine.library import Handle
     from chtab._files.arc_columns import Arcs
     from chtab.typing import Path
@@ -62,6 +63,8 @@ class Running:
     # the nodes are ordered afresh.
     like: Any = None
     fresh: int = 5
+    # The topology of the arcs, with which their weights are customized in place of building.
+    customizing: Customizing | None = None
 
     def __post_init__(self) -> None:
         see_that_count("fresh", self.fresh, 0, 100)
@@ -120,6 +123,8 @@ class Opening:
     stamp: Stamp | None = None
     # What the caller says about units; `Network.open` explains it.
     asked: measures.Asked = measures.Asked()
+    # The file of the order in which its weights are customized.
+    order: str | None = None
 
 
 def opening_of(
@@ -143,8 +148,10 @@ def of_folder(
     graph, own, labelling = (os.path.join(folder, name) for name in names)
     saved, coordinates, bends = paths_of(saved or own, coordinates, bends)
     see_that_readable(graph, saved, labelling, coordinates, bends)
-    setting = running.setting(graph, saved)
-    return Opening(setting, coordinates, bends, labelling, stamp_of(graph), running.asked)
+    setting, order = running.setting(graph, saved), os.path.join(folder, making.ORDER)
+    return Opening(
+        setting, coordinates, bends, labelling, stamp_of(graph), running.asked,
+        order if os.path.exists(order) else None)
 
 
 def paths_of(*paths: Path | None) -> list[str | None]:

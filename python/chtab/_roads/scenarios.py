@@ -2,13 +2,14 @@
 from __future__ import annotations
 
 import itertools
+import os
 from collections.abc import Mapping
 from typing import TYPE_CHECKING, Any, NamedTuple
 
 import numpy
 
 from chtab import files
-from chtab._engine import making
+from chtab._engine import customizing, making, opening
 from chtab.errors import DataFault
 from chtab._files import arc_columns, columns, edge_lines, measures
 from chtab._files.columns import quoted
@@ -338,6 +339,22 @@ class Given(NamedTuple):
         places = numpy.array(coordinates.longitudes), numpy.array(coordinates.latitudes)
         own = edge_lines.bends_of(new.lines, new.tails, new.heads, places)
         return bends | {arc + int(kept.sum()): points for arc, points in own.items()}
+
+
+def order_of(layers: Layers, order: Any) -> bytes | str | None:
+    """What names an order in which weights are customized: the path of a file, or the lines of
+    nodes in order. None for the order that is found."""
+    if order is None:
+        return None
+    if isinstance(order, str | os.PathLike):
+        path = os.path.abspath(order)
+        opening.see_that_readable(path)
+        return path
+    nodes = layers.labels.nodes_of("order", order if hasattr(order, "__len__") else [*order])
+    count = files.count_nodes(layers.path)
+    if nodes.ndim != 1 or not numpy.array_equal(numpy.sort(nodes), numpy.arange(1, count + 1)):
+        raise DataFault(f"order does not have each of the {count:,} nodes once", "order")
+    return customizing.lines_of(nodes)
 
 
 def mask_in(closed: Any) -> NDArray[Any] | None:

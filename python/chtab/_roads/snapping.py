@@ -8,6 +8,7 @@ which turns are open to it.
 """
 from __future__ import annotations
 
+import copy
 import hashlib
 import math
 import numbers
@@ -259,6 +260,17 @@ class Roads:
         numpy.minimum.at(least, (is_back.astype(int), roads), weights)
         least[least == numpy.iinfo(numpy.int64).max] = NONE
         self.forward, self.backward = least
+
+    def weighed(self, weights: Integers) -> Roads:
+        """The same roads with other weights of their arcs. Spots of these are no spots of those."""
+        other = copy.copy(self)
+        other.weights = numpy.array(weights, numpy.int64)
+        other.find_ways()
+        for column in (other.weights, other.forward, other.backward):
+            column.flags.writeable = False
+        before = numpy.frombuffer(self.origin.roads, numpy.uint8)
+        other.origin = self.origin._replace(roads=digest_of(before, other.weights))
+        return other
 
     def __len__(self) -> int:
         return len(self.firsts)

@@ -1,6 +1,7 @@
 """Answers to requests of OSRM's interface, by one network."""
 from __future__ import annotations
 
+import copy
 import json
 from collections.abc import Sequence
 from typing import TYPE_CHECKING, Any, NamedTuple
@@ -112,6 +113,12 @@ class Answers:
         drawings = {form: Drawing(network.roads.lines, network.nodes, form) for form in options.FORMS}
         self.voice = telling.Voice(steps, numbers, drawings)
         self.places = Places(network.roads, self.waypoint)
+
+    def weighed(self, network: Network) -> Answers:
+        """The same answers by the same network with other weights."""
+        other = copy.copy(self)
+        other.network = network
+        return other
 
     def question(self, words: url.Words) -> Question:
         """The question of a request, which is read before anything is looked up."""
