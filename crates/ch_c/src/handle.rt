@@ -25,7 +25,7 @@ const VERSION: u32 = 1_003_000;
 #[repr(C)]
 #[derive(Drop)]
 pub struct Handle {
-    pub(crate) is_open: u64,
+    is_open: u64,
     engine: ErasedEngine,
     ghost held: { IsSome engine.network ↔ (is_open ≡ 1) },
 }

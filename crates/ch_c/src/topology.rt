@@ -193,7 +193,7 @@ pub extern "C" fn chtab_customized(
     ensures customizing { IsCustomizing topology.old.topology.arcs weights.now handle.old.engine.network handle.new.engine.network fault.old fault.new result }
     ensures same { topology.new.topology.arcs ≡ topology.old.topology.arcs }
 {
-    if handle.is_open == 1 {
+    if handle.is_open() {
         return IS_OPEN;
     }
     let Some(arcs) = topology.take(alloc) else {
