@@ -30,10 +30,11 @@ def test_numbers_are_those_of_the_header():
 
     text = HEADER.read_text()
     assert f"#define CHTAB_VERSION {library.VERSION}\n" in text
-    assert all(getattr(library, name) == number for name, number in statuses().items()) and len(statuses()) == 15
+    assert all(getattr(library, name) == number for name, number in statuses().items()) and len(statuses()) == 16
     assert len(re.findall(r"CHTAB_FAULT_\w+ = \d+", text)) == len(library.KINDS)
-    assert [ctypes.sizeof(kind) for kind in (library.Block, library.Fault, library.Found)] == [16, 24, 16]
-    for kind, name in (library.Block, "chtab"), (library.Fault, "chtab_fault"), (library.Found, "chtab_found"):
+    kinds = {"chtab": library.Block, "chtab_topology": library.TopologyBlock, "chtab_fault": library.Fault, "chtab_found": library.Found}
+    assert [ctypes.sizeof(kind) for kind in kinds.values()] == [16, 16, 24, 16]
+    for name, kind in kinds.items():
         body = re.search(rf"typedef struct {name} \{{(.*?)\}}", text, re.DOTALL).group(1)
         assert re.findall(r"(\w+);", re.sub(r"/\*.*?\*/", "", body)) == [field for field, _ in kind._fields_], name
 
@@ -44,7 +45,7 @@ def test_calls_are_those_of_the_header():
 
     one, rows, column = ctypes.POINTER(ctypes.c_uint32), ctypes.POINTER(ctypes.c_uint64), ctypes.c_void_p
     types = {
-        "chtab *": {library.HANDLE}, "const uint8_t *": {ctypes.c_char_p}, "size_t ": {ctypes.c_size_t}, "uint64_t ": {ctypes.c_uint64},
+        "chtab *": {library.HANDLE}, "chtab_topology *": {library.TOPOLOGY}, "const uint8_t *": {ctypes.c_char_p}, "size_t ": {ctypes.c_size_t}, "uint64_t ": {ctypes.c_uint64},
         "uint32_t ": {ctypes.c_uint32}, "const uint32_t *": {column}, "const uint64_t *": {column}, "uint64_t *": {column, rows}, "uint32_t *": {column, one}, "uint8_t *": {column},
         "chtab_fault *": {ctypes.POINTER(library.Fault)}, "chtab_found *": {ctypes.POINTER(library.Found)},
     }

@@ -89,6 +89,10 @@ CALLS = {
     ),
     "chtab_open_quick": (HANDLE, ctypes.c_char_p, ctypes.c_size_t, ctypes.POINTER(Fault)),
     "chtab_open_like": (HANDLE, ctypes.c_char_p, ctypes.c_size_t, HANDLE, ctypes.c_uint32, ctypes.POINTER(Fault)),
+    "chtab_topology_open": (
+        TOPOLOGY, ctypes.c_char_p, ctypes.c_size_t, ctypes.c_char_p, ctypes.c_size_t,
+        ctypes.POINTER(Fault),
+    ),
     "chtab_topology_open_arrays": (
         TOPOLOGY, ctypes.c_uint32, *ARRAY, *ARRAY, ctypes.c_char_p, ctypes.c_size_t,
         ctypes.POINTER(Fault),
