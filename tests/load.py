@@ -227,6 +227,26 @@ class Traffic:
         """Whether a table of some places is that of a file."""
         return answer == [[None if weight < 0 else weight for weight in (self.tables[name][one][other] for other in which)] for one in which]
 
+    def asked(self, address, which, form):
+        """The weights from each of some places to each, by `/api/table`, by a table in OSRM's form, or by its routes; None if an answer is refused."""
+        places = [self.places[each] for each in which]
+        if form == "api":
+            status, answer = ask(address, "/api/table", {"sources": places, "targets": places})
+            return answer["weights"] if status == 200 else None
+        listed = [f"{x},{y}" for x, y in places]
+        if form == "table":
+            status, answer = ask(address, f"/table/v1/car/{';'.join(listed)}")
+            return in_milliseconds(answer["durations"]) if status == 200 else None
+        found = [[ask(address, f"/route/v1/car/{one};{other}?overview=false") for other in listed] for one in listed]
+        if any(status != 200 for row in found for status, _ in row):
+            return None
+        return in_milliseconds([[answer["routes"][0]["duration"] for _, answer in row] for row in found])
+
+
+def in_milliseconds(seconds):
+    """Rows of durations in milliseconds, None where there is none."""
+    return [[None if each is None else round(1_000 * each) for each in row] for row in seconds]
+
 
 def fifty_clients_while_speeds_change(*words):
     """Speeds are exchanged while fifty clients ask: none fails, each answer is right for one file, and after an exchange no answer is by the file before."""
@@ -238,19 +258,17 @@ def fifty_clients_while_speeds_change(*words):
         draw = random.Random(seed)
         while not ended.is_set():
             which = [draw.randrange(len(traffic.places)) for _ in range(draw.choice((2, 6)))]
-            places = [traffic.places[each] for each in which]
-            status, answer = ask(address, "/api/table", {"sources": places, "targets": places})
-            fits = [name for name in traffic.tables if status == 200 and traffic.fits(answer["weights"], which, name)]
+            answer = traffic.asked(address, which, draw.choice(("api", "table")))
+            fits = [name for name in traffic.tables if answer is not None and traffic.fits(answer, which, name)]
             with lock:
                 seen.update(fits)
                 if not fits:
-                    wrong.append((status, answer))
+                    wrong.append(answer)
 
     def is_by(address, name):
         """Whether each process answers by a file: many requests in turn, each on a connection of its own."""
-        which = [*range(len(traffic.places))]
-        body = {"sources": traffic.places, "targets": traffic.places}
-        return all(traffic.fits(ask(address, "/api/table", body)[1]["weights"], which, name) for _ in range(6))
+        which, few = [*range(len(traffic.places))], [0, 1, 2]
+        return all(traffic.fits(traffic.asked(address, some, form), some, name) for some, form in [(which, "api"), (which, "table"), (few, "route")] * 3)
 
     with service("net", "--segment-speed-file", "speeds.csv", *words) as (child, address), concurrent.futures.ThreadPoolExecutor(CLIENTS) as clients:
         assert is_by(address, "slow")

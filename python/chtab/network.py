@@ -591,8 +591,8 @@ class Network:
         return self._made(arcs, folder, running)
 
     def customizable(self, order: str | os.PathLike | Iterable | None = None) -> Self:
-        """Prepares the network for new weights: from here on `changed` customizes them, which takes
-        a small part of the time of building, unless arcs are added.
+        """Prepares the network for new weights: from here on `changed` customizes them, in the
+        network's unit, which takes a small part of the time of building, unless arcs are added.
 
         This finds an order of the nodes and the legs that there may be in it, whatever the weights
         are. It takes some microseconds for each node. The order is kept in the folder of the

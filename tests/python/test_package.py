@@ -75,7 +75,7 @@ def test_what_is_told_of_the_package():
 
     assert dir(chtab) == sorted(chtab.__all__) and all(hasattr(chtab, name) for name in chtab.__all__)
     assert {*chtab.__all__} == {"Network", "Routes", "Near", "Spots", "ChtabError", *ERRORS, "__version__"}
-    wanted = "accessibility along answers_by assign changed close components coordinates crossings distances flows flows_table frame from_arrays from_frame from_geodataframe "
+    wanted = "accessibility along answers_by assign changed close components coordinates crossings customizable distances flows flows_table frame from_arrays from_frame from_geodataframe "
     wanted += "from_networkx from_sparse graph isochrones labels near nearest_nodes nearest_targets nodes nodes_to_geodataframe open plot "
     wanted += "reach roads rounding routes scale snap table to_geodataframe trip_routes trip_table trips unit"
     assert [name for name in dir(chtab.Network) if not name.startswith("_")] == wanted.split()

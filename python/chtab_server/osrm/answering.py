@@ -118,6 +118,8 @@ class Answers:
         """The same answers by the same network with other weights."""
         other = copy.copy(self)
         other.network = network
+        # What is kept of places has the weights of the roads that they are on.
+        other.places = Places(network.roads, other.waypoint)
         return other
 
     def question(self, words: url.Words) -> Question:
