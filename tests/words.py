@@ -23,6 +23,20 @@ from helpers.running import PROGRAM, ROOT, Answer, Count, agrees, build, run
 LINE = "p sp 3 2\na 1 2 4\na 2 3 5\n"
 TIES = "p sp 4 6\na 1 4 1\na 2 1 1\na 2 3 1\na 3 2 1\na 3 4 1\na 4 3 1\n"
 QUICK = "p sp 4 5\na 1 4 1\na 2 1 1\na 3 1 1\na 4 2 1\na 4 3 1\n"
+
+
+def hub(arcs):
+    """Node 1 with so many arcs: one to each other node, and one back from each or from all but the last."""
+    leaves = (arcs + 1) // 2
+    lines = [f"a 1 {leaf + 1} 1\n" for leaf in range(1, leaves + 1)] + [f"a {leaf + 1} 1 1\n" for leaf in range(1, arcs - leaves + 1)]
+    return f"p sp {leaves + 1} {arcs}\n" + "".join(lines)
+
+
+def numbers(nodes):
+    """The order of numbers."""
+    return f"p ch {nodes} 0\n" + "".join(f"o {node}\n" for node in range(1, nodes + 1))
+
+
 FILES = {
     "line.gr": LINE,
     "--plain": LINE,
@@ -39,6 +53,11 @@ FILES = {
     "that.ch": "p ch 4 0\no 3\no 2\no 1\no 4\n",
     "order.ch": "p ch 3 0\no 1\no 3\no 2\n",
     "twice.ch": "p ch 3 0\no 1\no 3\no 1\n",
+    "busy.gr": hub(128),
+    "busy.ch": numbers(65),
+    "crowded.gr": hub(129),
+    "crowded.ch": numbers(66),
+    "hub.p2p": "p aux sp p2p 1\nq 1 2\n",
 }
 DISTANCES = "d 1 3 9\nd 3 1 -\n"
 ROUTES = "d 1 3 9\nr 2\na 1 2 4\na 2 3 5\nd 3 1 -\n"
@@ -81,6 +100,9 @@ READ = [
     ("dist quick.gr quick.p2p", "d 4 1 2\n"),
     ("dist --saved deep.ch quick.gr --routes quick.p2p", ONE_BY_ONE),
     ("dist --like order.ch line.gr line.p2p", DISTANCES),
+    ("dist --like crowded.ch crowded.gr hub.p2p", "d 1 2 1\n"),
+    ("dist --routes --like busy.ch busy.gr hub.p2p", "d 1 2 1\nr 1\na 1 2 1\n"),
+    ("dist --routes --like crowded.ch --fresh 100 crowded.gr hub.p2p", "d 1 2 1\nr 1\na 1 2 1\n"),
     ("dist --routes --like first.ch ties.gr ties.p2p", BY_DIFFERENCE),
     ("dist ties.gr --fresh 24 ties.p2p --like=first.ch --routes", BY_DIFFERENCE),
     ("dist --routes --fresh=+100 --like first.ch ties.gr ties.p2p", BY_DEPTH),
@@ -159,6 +181,9 @@ ELSEWHERE = [
     ("save --like= line.gr", 3, "chtab: cannot read order\n"),
     ("save --like order.ch line.p2p", 1, "chtab: graph line 1: bad problem line\n"),
     ("ask --like twice.ch line.gr", 1, "chtab: order refused: a node occurs twice\n"),
+    ("save --like crowded.ch --fresh 0 crowded.gr", 1, "chtab: order refused: too many edges at node 1\n"),
+    ("dist --routes --like crowded.ch crowded.gr hub.p2p", 1, "chtab: order refused: too many edges at node 1\n"),
+    ("ask --routes --like crowded.ch crowded.gr", 1, "chtab: order refused: too many edges at node 1\n"),
     ("dist --like twice.ch line.gr line.gr", 1, "chtab: order refused: a node occurs twice\n"),
     ("dist line.p2p none.p2p", 3, "chtab: cannot read queries\n"),
     ("table line.p2p from.ss none.ss", 3, "chtab: cannot read targets\n"),

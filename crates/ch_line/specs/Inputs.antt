@@ -18,7 +18,7 @@ use Rattle.ch_run.specs.NearRun.{HasNearTargetsRefused, IsNearBy, IsOfNear, list
 use Rattle.ch_run.specs.Run.{Delivers, IsGraphRefused, IsWrite, NoFile, NoInput, OneInput, OrderFile, Reading, ReadingIf, ReadsOnce}
 use Rattle.ch_run.specs.Run.{SavedFile, SourceReading, WritesOnce, reading}
 use Rattle.ch_run.specs.SaveRun.{IsOfSave, IsSavedBy}
-use Rattle.ch_run.specs.Source.{HasCheckRefused, HasOrderRefused, HasSavedRefused, IsOfLoading, source_reading}
+use Rattle.ch_run.specs.Source.{HasCheckRefused, HasCrowdedOrder, HasOrderRefused, HasSavedRefused, IsOfLoading, source_reading}
 use Rattle.ch_run.specs.Stories.{RunsAsk, RunsDist, RunsNear, RunsSave, RunsTable}
 use Rattle.ch_run.specs.TableRun.{HasCellsRefused, HasSourcesRefused, HasTargetsRefused, IsOfTable, IsTabledBy}
 
@@ -107,16 +107,18 @@ pub record RefusesHierarchy (graph saved : Reading) (result : Result Unit RunFau
   pub lines : (fault : ReadFault) → result ≡ Err (RunFault.Read Which.Saved fault) → HasSavedRefused graph saved fault
   pub check : (fault : CheckFault) → result ≡ Err (RunFault.Check fault) → HasCheckRefused graph saved fault
 
--- an order is refused only for a fault of its lines, or if it does not have each node of the graph once
-pub record RefusesOrder (graph order : Reading) (result : Result Unit RunFault) : Type 0 where
+-- an order is refused only for a fault of its lines, or if it does not have each node of the graph once, or if too many legs touch a
+-- given node in its turn
+pub record RefusesOrder (graph order : Reading) (fresh hops : ℕ) (result : Result Unit RunFault) : Type 0 where
   pub lines : (fault : ReadFault) → result ≡ Err (RunFault.Read Which.Order fault) → HasSavedRefused graph order fault
   pub nodes : result ≡ Err RunFault.Order → HasOrderRefused graph order
+  pub crowded : (node : ℕ) → result ≡ Err (RunFault.Crowded node) → HasCrowdedOrder graph order fresh hops node
 
 -- the source of a hierarchy is refused only for a fault that it has
 abbrev pub RefusesSource : Reading → SourceReading → Result Unit RunFault → Type 0
 RefusesSource graph NoFile result = ⊤
 RefusesSource graph (SavedFile saved) result = RefusesHierarchy graph saved result
-RefusesSource graph (OrderFile order fresh hops) result = RefusesOrder graph order result
+RefusesSource graph (OrderFile order fresh hops) result = RefusesOrder graph order fresh hops result
 
 -- the lists of a table are refused only for faults that they have
 pub record RefusesTable (graph : Reading) (source : SourceReading) (sources targets : Reading)

@@ -5,4 +5,5 @@ pub mod StepsMade
 pub mod ConstructionCalls
 pub mod KeptPriorities
 pub mod GivenTurns
+pub mod GivenCalls
 pub mod QuickSteps

@@ -1,9 +1,11 @@
 -- A hierarchy that is being built one node after the other.
 use Rattle.std.specs.Prelude.{◌≡◌, ◌+◌, ◌<◌, ◌≤◌, ℕ, All, List, None, length, slice_index, slice_set}
 use Rattle.ch_graph.specs.declared.limits.TheConstants.{MOST_NODES}
+use Rattle.ch_graph.specs.Graph.{Network}
 use Rattle.ch_hierarchy.specs.Rows.{row}
 use Rattle.ch_order.specs.declared.construction.Construction.{Construction}
 use Rattle.ch_order.specs.Progress.{Progress}
+use Rattle.ch_order.specs.Steps.{IsAfterGiven}
 use Rattle.ch_contract.specs.Legs.{AreLegsWithin, turned_legs}
 use Rattle.ch_contract.specs.Contraction.{Contracts}
 use Rattle.ch_contract.specs.Measures.{AreDeepened}
@@ -36,6 +38,13 @@ pub record IsSized (c : Construction) : Type 0 where
 -- the caller's room is ready to judge nodes with the remaining legs, and the workers' rooms are idle
 abbrev pub IsJudging : ℕ → Construction → Type 0
 IsJudging h c = IsReady c.remaining.nodes h (legs_of c.remaining) c.room × All IsIdleRoom c.rooms.items
+
+-- the given nodes are contracted, as they come, and no other node is; none has a priority
+pub record HasGiven (g : Network) (h : ℕ) (given : List ℕ) (c : Construction) : Type 0 where
+  pub sizes : IsSized c
+  pub nodes : c.remaining.nodes ≡ g.nodes
+  pub after : IsAfterGiven g h given (progress_of c)
+  pub ready : IsJudging h c
 
 -- v can be contracted next, where a witness has at most h legs
 pub record IsReadyFor (h : ℕ) (c : Construction) (v : ℕ) : Type 0 where

@@ -1,5 +1,6 @@
 -- The definitions of a construction, its priorities and its steps, one node after the other.
 pub mod Construction
+pub mod Crowded
 pub mod Priorities
 pub mod Progress
 pub mod Quick

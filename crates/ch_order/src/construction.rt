@@ -1,6 +1,7 @@
 //! Builds the hierarchy of a graph: its nodes are contracted one after the other.
 mod alone;
 mod chains;
+mod crowded;
 mod estimates;
 mod like;
 mod quick;
@@ -13,6 +14,7 @@ ghost use Rattle.ch_contract.specs.Like.{IsHierarchyFrom};
 ghost use Rattle.ch_contract.specs.Begun.{AreDifferentNodes};
 ghost use Rattle.ch_hierarchy.specs.Kept.{IsKept};
 ghost use Rattle.ch_hierarchy.specs.Saved.{IsOrderOf};
+ghost use Rattle.ch_order.specs.Construction.{HasGiven};
 
 use crate::priority::PriorityJob;
 pub use alone::{build_alone, build_like_alone};
@@ -23,7 +25,7 @@ use ch_graph::Graph;
 use ch_hierarchy::Hierarchy;
 use ch_queue::KeyQueue;
 use ch_work::{Crew, Gate, Stage};
-pub use like::{OrderError, build_like};
+pub use like::{LikeError, OrderError, build_like};
 pub use quick::{build_like_quickly, build_quickly, build_quickly_alone};
 use std::alloc::{AllocError, Global};
 use std::thread::Threads;
@@ -84,6 +86,24 @@ fn contract_in_turn<R: Threads + Sync, G: Gate>(
     ensures { IfOk result (IsHierarchyFrom by graph.now hops.number given.now) }
 {
     let begun = Construction::after(crew.alloc, crew.gate, graph, given, hops)?;
+    contract_others(crew, graph, begun, given, others, hops, by)
+}
+
+/// Goes on with a construction in which the nodes `given` are contracted, as they come. Contracts the others in this order,
+/// and returns the hierarchy. The two lists together have each node once.
+fn contract_others<R: Threads + Sync, G: Gate>(
+    crew: &Crew<'_, R, G>,
+    graph: &Graph,
+    begun: Construction,
+    given: &[u32],
+    others: &[u32],
+    hops: HopBound,
+    by: OrderBy,
+) -> Result<Hierarchy, AllocError>
+    requires order { IsOrderOf graph.now.nodes (given.now ++ others.now) }
+    requires begun { HasGiven graph.now hops.number given.now begun }
+    ensures { IfOk result (IsHierarchyFrom by graph.now hops.number given.now) }
+{
     let mut construction = begun.rank(crew, others, hops, by)?;
     while let Some(node) = construction.next() {
         crew.gate
@@ -135,7 +155,6 @@ impl Construction {
     ghost use Rattle.ch_contract.specs.Rooms.{IsIdleRoom};
     ghost use Rattle.ch_hierarchy.specs.Hierarchy.{LevelsAndLegs, IsLevelled};
     ghost use Rattle.ch_order.specs.Progress.{AreAll, IsNext, IsOpen, IsStep};
-    ghost use Rattle.ch_order.specs.Steps.{IsAfterGiven};
     ghost use Rattle.ch_order.specs.Priorities.{IsRanked};
     ghost use Rattle.ch_order.specs.Construction.{IsSized, IsJudging, IsReadyFor, IsTaken, progress_of};
 
@@ -174,10 +193,7 @@ impl Construction {
         hops: HopBound,
     ) -> Result<Construction, AllocError>
         requires nodes { AreDifferentNodes graph.now nodes.now }
-        ensures sizes { IfOk result IsSized }
-        ensures nodes { IfOk result (λ c. c.remaining.nodes ≡ graph.now.nodes) }
-        ensures after { IfOk result (λ c. IsAfterGiven graph.now hops.number nodes.now (progress_of c)) }
-        ensures ready { IfOk result (IsJudging hops.number) }
+        ensures { IfOk result (HasGiven graph.now hops.number nodes.now) }
     {
         let mut construction = Construction::open(alloc, graph)?;
         for node in nodes {

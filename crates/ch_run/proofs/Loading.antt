@@ -8,12 +8,15 @@ use Rattle.ch_contract.specs.Legs.{IsHopBound}
 use Rattle.ch_contract.specs.Like.{IsHierarchyLike}
 use Rattle.ch_contract.proofs.theory.GivenOrders.{from_kept}
 use Rattle.ch_contract.proofs.theory.OrdersExist.{like_exists}
+use Rattle.ch_order.specs.declared.construction.like.LikeError.{LikeError}
 use Rattle.ch_order.specs.declared.construction.like.OrderError.{OrderError}
 use Rattle.ch_graph.specs.Graph.{Network, IsWithinLimits}
 use Rattle.ch_hierarchy.specs.Hierarchy.{LevelsAndLegs}
 use Rattle.ch_run.specs.declared.fault.RunFault.{RunFault}
 use Rattle.ch_run.specs.declared.fault.Which.{Which}
-use Rattle.ch_run.specs.Run.{IsOf, SourceReading, NoFile, SavedFile, OrderFile}
+use Rattle.ch_read.specs.declared.form.Form.TheVariants as Form
+use Rattle.ch_run.specs.Run.{IsOf, Reading, SourceReading, NoFile, SavedFile, OrderFile}
+use Rattle.ch_run.specs.Story.{EndsAt, IsOrderRefusedOn, IsRefused}
 use Rattle.ch_run.specs.Source.{IsInPlaceOf, IsOfLoading}
 
 -- a hierarchy that is right for the graph serves in its own place
@@ -23,7 +26,7 @@ own_place false g H K same kept = (refl, subst (IsKept g) (sym same) kept)
 
 module _ (g : Network) (hops : ℕ) (given : List ℕ) (fresh : ℕ) where
   -- the hierarchy that the rules name serves in its own place
-  pub built_in_place : (named : Bool) (r : Result LevelsAndLegs OrderError) → IfOk r (IsHierarchyLike g hops given fresh) →
+  pub built_in_place : (named : Bool) (r : Result LevelsAndLegs LikeError) → IfOk r (IsHierarchyLike g hops given fresh) →
       IfOk r (IsKept g) → IfOk r
       (λ K. (H : LevelsAndLegs) × IsHierarchyLike g hops given fresh H × IsKept g H × IsInPlaceOf named g (Some H) (Some K))
   built_in_place named (Ok K) like kept = (K, like, kept, own_place named g K K refl kept)
@@ -37,6 +40,19 @@ module _ (g : Network) (hops : ℕ) (given : List ℕ) (fresh : ℕ) where
       let H = like_exists g hops given fresh limits bound each in
       (H.0, H.1, from_kept Depth g hops _ H.0 limits bound H.1, subst (λ b. IsInPlaceOf b g (Some H.0) (Some K)) (sym unnamed) (refl, kept))
   built_in_its_place named (Err e) unnamed bound limits each kept = tt
+
+-- an order that is refused for a fault of its lines is refused
+pub lines_refused : (g : Network) (fresh hops : ℕ) (input : Reading) (e : RunFault) →
+    EndsAt Which.Order input (IsRefused (Form.Saved g.nodes)) e → EndsAt Which.Order input (IsOrderRefusedOn g fresh hops) e
+lines_refused g fresh hops input (RunFault.Read which fault) is = is
+lines_refused g fresh hops input (RunFault.Device which) is = is
+lines_refused g fresh hops input RunFault.Memory is = is
+lines_refused g fresh hops input RunFault.Order is = absurd is.1.2
+lines_refused g fresh hops input (RunFault.Crowded node) is = absurd is.1.2
+lines_refused g fresh hops input RunFault.Cells is = absurd is.0
+lines_refused g fresh hops input (RunFault.CellsAt line) is = absurd is.1.2
+lines_refused g fresh hops input (RunFault.Write count) is = absurd is.0
+lines_refused g fresh hops input (RunFault.Check fault) is = absurd is.1.2
 
 -- a fault of the graph is one of loading
 pub graph_of : (source : SourceReading) (e : RunFault) → IsOf Which.Graph e → IsOfLoading source e

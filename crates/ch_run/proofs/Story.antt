@@ -38,7 +38,7 @@ loads_as s r graph source {later = later} {none = none} {next = next} stop go =
     at (SavedFile saved) g reads =
         reads_as s r Which.Saved saved (IsSavedRefusedOn g) (λ P own at. stop P own) (λ H. go g (Some H)) reads
     at (OrderFile order fresh hops) g reads =
-        reads_as s r Which.Order order (IsOrderRefusedOn g) (λ P own at. stop P own) (λ H. go g (Some H)) reads
+        reads_as s r Which.Order order (IsOrderRefusedOn g fresh hops) (λ P own at. stop P own) (λ H. go g (Some H)) reads
 
 -- the run that loaded in vain stops there
 pub loads_stops : (S : Type 0) {T : Type 0} (graph : Reading) (source : SourceReading) (r : Result T RunFault)

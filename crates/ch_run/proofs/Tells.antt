@@ -64,7 +64,7 @@ MetSource r graph NoFile same = ⊤
 MetSource r graph (SavedFile saved) same = Met r Which.Saved saved same (AcceptsGraph graph)
     (λ input e. (g : Network) × ReadsGraph graph g × HasEnded input (IsSavedRefusedOn g) e)
 MetSource r graph (OrderFile order fresh hops) same = Met r Which.Order order same (AcceptsGraph graph)
-    (λ input e. (g : Network) × ReadsGraph graph g × HasEnded input (IsOrderRefusedOn g) e)
+    (λ input e. (g : Network) × ReadsGraph graph g × HasEnded input (IsOrderRefusedOn g fresh hops) e)
 
 -- what is told of the list of sources, if there is one
 abbrev pub MetIf : {T : Type 0} → Result T RunFault → ReadingIf → (same accepted : Type 0) → (Reading → RunFault → Type 0) → Type 0
@@ -198,7 +198,8 @@ module _ {T : Type 0} (r : Result T RunFault) (Own : RunFault → Type 0) where
       let e = reads_told Which.Graph graph (IsRefused Form.Graph) 1 (omega arith) (λ e is. own e (inl is)) tt (λ e is. is) went
       (λ is at. (untouched r Which.Graph is (omega arith) at.0, stop Which.Graph (omega arith) (λ e of. inl of) is at.1))
       (λ g named rest. let read : ReadsGraph graph g = (named.0, named.1, named.2.0) in
-      reads_told Which.Order order (IsOrderRefusedOn g) 2 (omega arith) (λ e is. own e (inr is)) (g, read) (λ e is. (g, read, is)) rest
+      reads_told Which.Order order (IsOrderRefusedOn g fresh hops) 2 (omega arith) (λ e is. own e (inr is)) (g, read)
+      (λ e is. (g, read, is)) rest
       (stop Which.Order (omega arith) (λ e of. inr of)) (λ H is.
       let order_read : ReadsSaved order g.nodes is.2.0 = (is.0, is.1, is.2.1) in
       let built : AreBuiltLike graph order fresh hops g is.2.0 H =

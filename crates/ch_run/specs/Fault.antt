@@ -1,5 +1,5 @@
 -- The line and the exit status of each fault.
-use Rattle.std.specs.Prelude.{ℕ, ◌++◌, List, Result, Ok, Err, codes, decimal}
+use Rattle.std.specs.Prelude.{ℕ, ◌+◌, ◌++◌, List, Result, Ok, Err, codes, decimal}
 use Rattle.ch_hierarchy.specs.FaultText.{fault_text as check_fault_text}
 use Rattle.ch_read.specs.declared.fault.ReadError.{ReadError}
 use Rattle.ch_read.specs.declared.fault.ReadError.TheVariants.{Fault, NoMemory}
@@ -37,6 +37,7 @@ fault_words (RunFault.Device which) = codes "cannot read " ++ input_name which
 fault_words (RunFault.Write count) = codes "cannot write after " ++ decimal count ++ codes " bytes"
 fault_words (RunFault.Check fault) = codes "saved hierarchy refused: " ++ check_fault_text fault
 fault_words RunFault.Order = codes "order refused: a node occurs twice"
+fault_words (RunFault.Crowded node) = codes "order refused: too many edges at node " ++ decimal (node + 1)
 
 -- the line that reports a fault, without its line feed
 abbrev pub fault_text : RunFault → List ℕ
@@ -53,6 +54,7 @@ status_of (RunFault.Device _) = 3
 status_of (RunFault.Write _) = 3
 status_of (RunFault.Check _) = 1
 status_of RunFault.Order = 1
+status_of (RunFault.Crowded _) = 1
 
 -- the fault of a run whose reader refused this input, or had no memory for it
 abbrev pub input_fault : Which → ReadError → RunFault

@@ -95,6 +95,7 @@ IsUnread which input (RunFault.CellsAt line) = ⊥
 IsUnread which input (RunFault.Write count) = ⊥
 IsUnread which input (RunFault.Check fault) = ⊥
 IsUnread which input RunFault.Order = ⊥
+IsUnread which input (RunFault.Crowded node) = ⊥
 
 -- the faults that reading this input can end in: it is refused, it can't be read, or there is no memory
 abbrev pub IsOf : Which → RunFault → Type 0
@@ -106,6 +107,7 @@ IsOf which (RunFault.Device input) = which ≡ input
 IsOf which (RunFault.Write count) = ⊥
 IsOf which (RunFault.Check fault) = which ≡ Which.Saved
 IsOf which RunFault.Order = which ≡ Which.Order
+IsOf which (RunFault.Crowded node) = which ≡ Which.Order
 
 -- a write of the output failed
 abbrev pub IsWrite : RunFault → Type 0
@@ -117,6 +119,7 @@ IsWrite RunFault.Memory = ⊥
 IsWrite (RunFault.Device which) = ⊥
 IsWrite (RunFault.Check fault) = ⊥
 IsWrite RunFault.Order = ⊥
+IsWrite (RunFault.Crowded node) = ⊥
 
 -- this input was refused or couldn't be read
 abbrev pub StopsAt : Which → RunFault → Type 0

@@ -1,6 +1,6 @@
 -- Where the hierarchy of a run comes from, and the promises on a saved one and on an order.
 use Rattle.std.specs.Prelude.{◌≡◌, ◌⊎◌, ℕ, if◌then◌else◌, [], ◌∷◌, Bool, true, false, List, Option, Some, None}
-use Rattle.std.specs.Prelude.{is_some, IfSome, Result, Err, ⊤}
+use Rattle.std.specs.Prelude.{is_some, IfSome, Result, Err, ⊤, take}
 use Rattle.ch_graph.specs.Graph.{Network, IsWithinLimits}
 use Rattle.ch_graph.specs.Saved.{OrderAndLegs}
 use Rattle.ch_read.specs.declared.fault.ReadFault.{ReadFault}
@@ -14,7 +14,8 @@ use Rattle.ch_hierarchy.specs.Saved.{NamesKept, IsFirstFault, IsOrderOf}
 use Rattle.ch_contract.specs.declared.measure.OrderBy.{OrderBy}
 use Rattle.ch_contract.specs.declared.measure.OrderBy.TheVariants.{Depth}
 use Rattle.ch_contract.specs.Built.{IsHierarchyBy}
-use Rattle.ch_contract.specs.Like.{IsHierarchyLike}
+use Rattle.ch_contract.specs.Like.{IsHierarchyLike, given_count}
+use Rattle.ch_order.specs.Crowded.{HasCrowded}
 use Rattle.ch_text.specs.declared.device.DeviceFault.{DeviceFault}
 use Rattle.ch_run.specs.declared.fault.Which.{Which}
 use Rattle.ch_run.specs.declared.fault.RunFault.{RunFault}
@@ -124,24 +125,32 @@ abbrev pub HasOrderRefused : Reading → Reading → Type 0
 HasOrderRefused graph order = (g : Network) × (s : OrderAndLegs) × ReadsGraph graph g × ReadsSaved order g.nodes s
     × (IsOrderOf g.nodes s.order → ⊥)
 
+-- the graph was accepted and the order was read, but too many legs touch this node in its turn among the given ones
+abbrev pub HasCrowdedOrder : Reading → Reading → (fresh hops : ℕ) → ℕ → Type 0
+HasCrowdedOrder graph order fresh hops node = (g : Network) × (s : OrderAndLegs) × ReadsGraph graph g × ReadsSaved order g.nodes s
+    × HasCrowded g hops (take (given_count g.nodes fresh) s.order) node
+
 -- a run reads a saved hierarchy after the graph. It refuses it only for a fault of its lines, or for its first fault on the graph
 pub record ReadsChecked {T S : Type 0} (graph : Reading) (result : Result T RunFault)
     (gives : S → List ℕ → Result ℕ DeviceFault → S → Type 0) (failed : S → ℕ) (old new : S) : Type 0 where
   pub lines : ReadsAfter (Which.Graph ∷ []) (AcceptsGraph graph) Which.Saved result gives failed old new (HasSavedRefused graph)
   pub check : (fault : CheckFault) → result ≡ Err (RunFault.Check fault) → HasCheckRefused graph (reading gives old new) fault
 
--- a run reads an order after the graph. It refuses it only for a fault of its lines, or if it does not have each node once
-pub record ReadsOrder {T S : Type 0} (graph : Reading) (result : Result T RunFault)
+-- a run reads an order after the graph. It refuses it only for a fault of its lines, or if it does not have each node once, or if too
+-- many legs touch a given node in its turn
+pub record ReadsOrder {T S : Type 0} (graph : Reading) (fresh hops : ℕ) (result : Result T RunFault)
     (gives : S → List ℕ → Result ℕ DeviceFault → S → Type 0) (failed : S → ℕ) (old new : S) : Type 0 where
   pub lines : ReadsAfter (Which.Graph ∷ []) (AcceptsGraph graph) Which.Order result gives failed old new (HasSavedRefused graph)
   pub order : result ≡ Err RunFault.Order → HasOrderRefused graph (reading gives old new)
+  pub crowded : (node : ℕ) → result ≡ Err (RunFault.Crowded node) → HasCrowdedOrder graph (reading gives old new) fresh hops node
 
 -- the promise of a run on the source of its hierarchy. A source without an input has none afterwards, and the others stay what they are
 abbrev pub ReadsSource : {T S : Type 0} → Reading → Result T RunFault → (gives : S → List ℕ → Result ℕ DeviceFault → S → Type 0) →
     (S → ℕ) → Source S → Source S → Type 0
 ReadsSource graph result gives failed Built new = new ≡ Built
 ReadsSource graph result gives failed (Saved old) (Saved new) = ReadsChecked graph result gives failed old new
-ReadsSource graph result gives failed (Like old fresh hops) (Like new fresh' hops') = ReadsOrder graph result gives failed old new
+ReadsSource graph result gives failed (Like old fresh hops) (Like new fresh' hops') =
+    ReadsOrder graph fresh.number hops.number result gives failed old new
 ReadsSource graph result gives failed _ _ = ⊥
 
 -- the faults that reading the graph and a saved hierarchy can end in: one is refused or can't be read, or there is no memory

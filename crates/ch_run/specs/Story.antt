@@ -1,12 +1,13 @@
 -- The story of a run: what it did with its inputs and its output, in the order in which it did it. Each step is followed by what comes
 -- after it.
-use Rattle.std.specs.Prelude.{◌≡◌, ◌⊎◌, ℕ, List, Option, Some, None, Result, Ok, Err, IsErrAnd}
+use Rattle.std.specs.Prelude.{◌≡◌, ◌⊎◌, ℕ, List, Option, Some, None, Result, Ok, Err, IsErrAnd, take}
 use Rattle.ch_graph.specs.Graph.{Network, IsWithinLimits}
 use Rattle.ch_graph.specs.Saved.{OrderAndLegs}
 use Rattle.ch_hierarchy.specs.Hierarchy.{LevelsAndLegs}
 use Rattle.ch_hierarchy.specs.Kept.{IsKept}
 use Rattle.ch_hierarchy.specs.Saved.{NamesKept, IsFirstFault, IsOrderOf}
-use Rattle.ch_contract.specs.Like.{IsHierarchyLike}
+use Rattle.ch_contract.specs.Like.{IsHierarchyLike, given_count}
+use Rattle.ch_order.specs.Crowded.{HasCrowded}
 use Rattle.ch_read.specs.declared.form.Form.{Form}
 use Rattle.ch_read.specs.Checks.{IsFault}
 use Rattle.ch_read.specs.Names.{NamesGraph, NamesSaved}
@@ -28,11 +29,15 @@ IsSavedRefusedOn g bytes (RunFault.Read input fault) = IsFault (Form.Saved g.nod
 IsSavedRefusedOn g bytes (RunFault.Check fault) = (s : OrderAndLegs) × NamesSaved bytes g.nodes s × IsFirstFault g s fault
 IsSavedRefusedOn g bytes _ = ⊥
 
--- the bytes of an order are refused on this graph, for a fault of their lines, or because they don't have each node once
-abbrev pub IsOrderRefusedOn : Network → List ℕ → RunFault → Type 0
-IsOrderRefusedOn g bytes (RunFault.Read input fault) = IsFault (Form.Saved g.nodes) bytes fault.line fault.kind
-IsOrderRefusedOn g bytes RunFault.Order = (s : OrderAndLegs) × NamesSaved bytes g.nodes s × (IsOrderOf g.nodes s.order → ⊥)
-IsOrderRefusedOn g bytes _ = ⊥
+-- the bytes of an order are refused on this graph, for a fault of their lines, or because they don't have each node once, or because too
+-- many legs touch one of the given nodes in its turn
+abbrev pub IsOrderRefusedOn : Network → (fresh hops : ℕ) → List ℕ → RunFault → Type 0
+IsOrderRefusedOn g fresh hops bytes (RunFault.Read input fault) = IsFault (Form.Saved g.nodes) bytes fault.line fault.kind
+IsOrderRefusedOn g fresh hops bytes RunFault.Order =
+    (s : OrderAndLegs) × NamesSaved bytes g.nodes s × (IsOrderOf g.nodes s.order → ⊥)
+IsOrderRefusedOn g fresh hops bytes (RunFault.Crowded node) =
+    (s : OrderAndLegs) × NamesSaved bytes g.nodes s × HasCrowded g hops (take (given_count g.nodes fresh) s.order) node
+IsOrderRefusedOn g fresh hops bytes _ = ⊥
 
 -- the bytes name an order of the graph's nodes. This hierarchy is that of the graph in an order like it, and right for the graph
 abbrev pub NamesLike : Network → (fresh hops : ℕ) → List ℕ → LevelsAndLegs → Type 0
@@ -78,7 +83,7 @@ LoadsSource g (SavedFile saved) result later next =
     Reads Which.Saved saved (λ bytes H. (s : OrderAndLegs) × NamesSaved bytes g.nodes s × NamesKept g s H) (IsSavedRefusedOn g)
     result later (λ H. next (Some H))
 LoadsSource g (OrderFile order fresh hops) result later next =
-    Reads Which.Order order (λ bytes H. NamesLike g fresh hops bytes H) (IsOrderRefusedOn g) result later (λ H. next (Some H))
+    Reads Which.Order order (λ bytes H. NamesLike g fresh hops bytes H) (IsOrderRefusedOn g fresh hops) result later (λ H. next (Some H))
 
 -- the run read a graph within the limits, and then what it needs for its hierarchy. `unread` says that this input is as it was
 abbrev pub Loads : {T : Type 0} → (graph : Reading) → (source : SourceReading) → (unread : Type 0) → Result T RunFault →

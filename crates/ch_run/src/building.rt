@@ -1,19 +1,22 @@
 //! Builds the hierarchy of a graph in the order that a run takes.
-ghost use Rattle.std.specs.Prelude.{◌≡◌, Some, Err, IfOk};
+ghost use Rattle.std.specs.Prelude.{◌≡◌, ℕ, Some, Err, IfOk, take};
 ghost use Rattle.ch_graph.specs.Graph.{IsWithinLimits};
 ghost use Rattle.ch_hierarchy.specs.Hierarchy.{LevelsAndLegs};
 ghost use Rattle.ch_hierarchy.specs.Kept.{IsKept};
 ghost use Rattle.ch_hierarchy.specs.Saved.{IsOrderOf};
 ghost use Rattle.ch_contract.specs.Built.{IsHierarchyBy};
-ghost use Rattle.ch_contract.specs.Like.{IsHierarchyLike};
-ghost use Rattle.ch_order.specs.declared.construction.like.OrderError.TheVariants as OrderErrorOf;
+ghost use Rattle.ch_contract.specs.Like.{IsHierarchyLike, given_count};
+ghost use Rattle.ch_order.specs.Crowded.{HasCrowded};
+ghost use Rattle.ch_order.specs.declared.construction.like.LikeError.TheVariants as LikeErrorOf;
 ghost use Rattle.ch_run.specs.Source.{IsBuiltToSave, IsInPlaceOf};
 
 use crate::plan::{Crew, Gate};
 use ch_contract::{Hierarchy, HopBound, OrderBy, Percent};
 use ch_graph::Graph;
 use ch_job::Options;
-use ch_order::{OrderError, build_in_turn, build_like, build_like_quickly, build_quickly};
+use ch_order::{
+    LikeError, OrderError, build_in_turn, build_like, build_like_quickly, build_quickly,
+};
 use std::alloc::AllocError;
 use std::thread::Threads;
 
@@ -60,7 +63,8 @@ pub(crate) fn build_to_save<R: Threads + Sync, G: Gate>(
 ///
 /// # Errors
 /// `Order` if the given order does not have each node of the graph exactly once, and `NoMemory` if there is no memory.
-/// The graph and the order are as before.
+/// `Crowded` with a given node, if the hierarchy is named and too many legs touch the node in its turn. The graph and the
+/// order are as before.
 #[tactic(auto, using(crate::proofs::Loading::built_in_place, crate::proofs::Loading::built_in_its_place))]
 pub(crate) fn build_in_order<R: Threads + Sync, G: Gate>(
     crew: &Crew<'_, R, G>,
@@ -69,14 +73,19 @@ pub(crate) fn build_in_order<R: Threads + Sync, G: Gate>(
     fresh: Percent,
     hops: HopBound,
     named: bool,
-) -> Result<Hierarchy, OrderError>
+) -> Result<Hierarchy, LikeError>
     ensures hierarchy { IfOk result (λ K. (H : LevelsAndLegs) × IsHierarchyLike graph.now hops.number given.now fresh.number H × IsKept graph.now H × IsInPlaceOf named graph.now (Some H) (Some K)) }
     ensures kept { IfOk result (IsKept graph.now) }
     ensures order { IfOk result (λ _. IsOrderOf graph.now.nodes given.now) }
-    ensures refused { result ≡ Err OrderErrorOf.Order → IsOrderOf graph.now.nodes given.now → ⊥ }
+    ensures refused { result ≡ Err LikeErrorOf.Order → IsOrderOf graph.now.nodes given.now → ⊥ }
+    ensures crowded { (v : ℕ) → result ≡ Err (LikeErrorOf.Crowded v) → HasCrowded graph.now hops.number (take (given_count graph.now.nodes fresh.number) given.now) v }
 {
     if named {
         return build_like(crew, graph, given, fresh, hops);
     }
-    build_like_quickly(crew, graph, given, fresh, hops)
+    match build_like_quickly(crew, graph, given, fresh, hops) {
+        Ok(hierarchy) => Ok(hierarchy),
+        Err(OrderError::Order) => Err(LikeError::Order),
+        Err(OrderError::NoMemory) => Err(LikeError::NoMemory),
+    }
 }

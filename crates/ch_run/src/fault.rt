@@ -102,6 +102,9 @@ pub enum RunFault {
     Check(CheckFault),
     /// The order does not have each node of the graph exactly once.
     Order,
+    /// When the turn of this node comes in the order, more than 128 edges touch it, and more than a hundredth of the nodes
+    /// are left. The text counts nodes from 1.
+    Crowded(u32),
 }
 
 impl fmt::Display for RunFault {
@@ -120,6 +123,10 @@ impl fmt::Display for RunFault {
             RunFault::Write(count) => write!(f, "cannot write after {count} bytes"),
             RunFault::Check(fault) => write!(f, "saved hierarchy refused: {fault}"),
             RunFault::Order => f.write_str("order refused: a node occurs twice"),
+            RunFault::Crowded(node) => {
+                let number = u64::from(*node) + 1;
+                write!(f, "order refused: too many edges at node {number}")
+            }
         }
     }
 }
@@ -195,6 +202,10 @@ fn words_of(fault: &RunFault) -> ShortText
             line.prepend_slice(b"saved hierarchy refused: ");
         }
         RunFault::Order => line.prepend_slice(b"order refused: a node occurs twice"),
+        RunFault::Crowded(node) => {
+            line.prepend_number(u64::from(node) + 1);
+            line.prepend_slice(b"order refused: too many edges at node ");
+        }
     }
     line
 }
@@ -238,6 +249,7 @@ pub fn status(fault: &RunFault) -> u8
         RunFault::Read(..)
         | RunFault::Check(_)
         | RunFault::Order
+        | RunFault::Crowded(_)
         | RunFault::Cells
         | RunFault::CellsAt(_) => 1,
         RunFault::Memory | RunFault::Device(_) | RunFault::Write(_) => 3,

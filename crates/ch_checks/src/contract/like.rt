@@ -6,7 +6,7 @@ use crate::examples::RING_ARCS;
 use ch_contract::Percent;
 use ch_graph::Graph;
 use ch_hierarchy::Hierarchy;
-use ch_order::{OrderError, build_like, build_like_quickly};
+use ch_order::{LikeError, OrderError, build_like, build_like_quickly};
 use ch_read::{ReadError, read_graph};
 use ch_text::save_text;
 use ch_work::{Open, Plan};
@@ -29,13 +29,17 @@ fn build<R: Threads + Sync>(
     given: &[u32],
     fresh: Percent,
     quickly: bool,
-) -> Result<Hierarchy, OrderError> {
+) -> Result<Hierarchy, LikeError> {
     let plan = Plan::new(2, 1, 1);
     let crew = crew(rt, alloc, &plan, &Open);
-    if quickly {
-        return build_like_quickly(&crew, graph, given, fresh, HOPS);
+    if !quickly {
+        return build_like(&crew, graph, given, fresh, HOPS);
     }
-    build_like(&crew, graph, given, fresh, HOPS)
+    match build_like_quickly(&crew, graph, given, fresh, HOPS) {
+        Ok(hierarchy) => Ok(hierarchy),
+        Err(OrderError::Order) => Err(LikeError::Order),
+        Err(OrderError::NoMemory) => Err(LikeError::NoMemory),
+    }
 }
 
 /// Builds the hierarchy of the ring, and expects this text. Each call that is refused memory is made a second time.
@@ -48,7 +52,7 @@ fn expect<R: Threads + Abort + Sync>(
 ) -> Result<(), Fail> {
     let ring = again_after!(ReadError::NoMemory, read_graph(alloc, RING_ARCS));
     let hierarchy = again_after!(
-        OrderError::NoMemory,
+        LikeError::NoMemory,
         build(rt, alloc, &ring, &GIVEN, fresh, quickly)
     );
     let written = again!(save_text(alloc, &hierarchy));
@@ -99,7 +103,7 @@ fn other_lists_refused_as_orders(rt: HostRuntime) -> Result<(), Fail> {
     let ring = read_graph(rt.alloc(), RING_ARCS)?;
     for quickly in [false, true] {
         let refused = build(&rt, rt.alloc(), &ring, &GIVEN[1..], NONE, quickly);
-        assert_eq!(rt; refused.err(), Some(OrderError::Order));
+        assert_eq!(rt; refused.err(), Some(LikeError::Order));
     }
     Ok(())
 }

@@ -7,9 +7,10 @@ ghost use Rattle.ch_job.specs.Job.{source_map};
 ghost use Rattle.ch_run.specs.Loaded.{IsRight};
 ghost use Rattle.ch_run.specs.Run.{reading, ReadsAll};
 ghost use Rattle.ch_read.specs.Names.{NamesOrder, NamesSaved};
+ghost use Rattle.ch_read.specs.declared.form.Form.TheVariants as Form;
 ghost use Rattle.ch_graph.specs.Graph.{IsWithinLimits};
 ghost use Rattle.ch_hierarchy.specs.Saved.{NamesKept};
-ghost use Rattle.ch_run.specs.Story.{EndsAt, IsOrderRefusedOn, IsSavedRefusedOn, Loads, NamesLike};
+ghost use Rattle.ch_run.specs.Story.{EndsAt, IsOrderRefusedOn, IsRefused, IsSavedRefusedOn, Loads, NamesLike};
 ghost use Rattle.ch_run.specs.Source.{IsInPlaceOf, IsServing, IsToSave, ReadsSaved, source_reading};
 
 use super::inputs::{bytes_from, graph_from};
@@ -19,7 +20,7 @@ use crate::plan::{Crew, Gate, Stage};
 use ch_contract::{CheckError, Hierarchy, HopBound, OrderBy, Percent};
 use ch_graph::{Graph, Saved};
 use ch_job::{Options, Source};
-use ch_order::{OrderError, build_quickly};
+use ch_order::{LikeError, build_quickly};
 use ch_query::check_watched;
 use ch_read::{read_order_by, read_saved_by};
 use ch_text::Input;
@@ -145,7 +146,7 @@ fn checked_from<R: Threads + Sync, S: Input, G: Gate>(
 }
 
 /// Reads an order to its end, and builds the hierarchy of the graph in an order like it.
-#[tactic(auto, using(crate::proofs::Owed::own_as))]
+#[tactic(auto, using(crate::proofs::Owed::own_as, crate::proofs::Loading::lines_refused))]
 fn built_from<R: Threads + Sync, S: Input, G: Gate>(
     crew: &Crew<'_, R, G>,
     order: &mut S,
@@ -157,13 +158,14 @@ fn built_from<R: Threads + Sync, S: Input, G: Gate>(
     ensures value { IfOk result (λ K. ReadsAll (reading S.read_gives order.old order.new) (λ bytes. (H : LevelsAndLegs) × NamesLike graph.now fresh.number hops.number bytes H × IsInPlaceOf named graph.now (Some H) (Some K))) }
     ensures kept { IfOk result (IsKept graph.now) }
     ensures same { S.origin order.new ≡ S.origin order.old }
-    ensures ends { IfErr result (EndsAt Which.Order (reading S.read_gives order.old order.new) (IsOrderRefusedOn graph.now)) }
+    ensures ends { IfErr result (EndsAt Which.Order (reading S.read_gives order.old order.new) (IsOrderRefusedOn graph.now fresh.number hops.number)) }
 {
     let given = order_from(crew, order, graph)?;
     match build_in_order(crew, graph, &given, fresh, hops, named) {
         Ok(hierarchy) => Ok(hierarchy),
-        Err(OrderError::Order) => Err(RunFault::Order),
-        Err(OrderError::NoMemory) => Err(RunFault::Memory),
+        Err(LikeError::Order) => Err(RunFault::Order),
+        Err(LikeError::Crowded(node)) => Err(RunFault::Crowded(node)),
+        Err(LikeError::NoMemory) => Err(RunFault::Memory),
     }
 }
 
@@ -290,7 +292,7 @@ fn order_from<R: Threads + Sync, S: Input, G: Gate>(
     graph: &Graph,
 ) -> Result<Vec<u32>, RunFault>
     ensures read { MatchResult result (λ order. ReadsAll (reading S.read_gives input.old input.new) (λ bytes. NamesOrder bytes graph.now.nodes order.items))
-        (EndsAt Which.Order (reading S.read_gives input.old input.new) (IsOrderRefusedOn graph.now)) }
+        (EndsAt Which.Order (reading S.read_gives input.old input.new) (IsRefused (Form.Saved graph.now.nodes))) }
     ensures same { S.origin input.new ≡ S.origin input.old }
 {
     let bytes = bytes_from(crew.alloc, input, Which::Order)?;

@@ -27,6 +27,7 @@ use std::thread::Threads;
 /// - `Read`: the first fault of the graph, or of the lines of a saved hierarchy or of an order.
 /// - `Check`: the first fault of the saved hierarchy on the graph.
 /// - `Order`: the order does not have each node of the graph once.
+/// - `Crowded`: when a given node of the order has its turn, too many edges touch it.
 /// - `Device`: a read of an input failed.
 /// - `Memory`: there was not enough memory.
 /// - `Write(count)`: the output took `count` bytes of the text and no more.

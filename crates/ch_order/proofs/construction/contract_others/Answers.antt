@@ -10,17 +10,17 @@ use Rattle.ch_contract.specs.Remaining.{legs_of}
 use Rattle.ch_contract.proofs.theory.GivenNodes.{other_nodes}
 use Rattle.ch_order.proofs.StepsMade.{steps_at_start, steps_next, steps_count, steps_node, steps_at_end}
 use Rattle.ch_order.proofs.StepsMade.{steps_within, steps_depth, steps_levelled}
-use Rattle.ch_order.proofs.construction.contract_in_turn.Goals as goal
+use Rattle.ch_order.proofs.construction.contract_others.Goals as goal
 
 pub rank-requires-clause-nodes : goal.rank-requires-clause-nodes
 rank-requires-clause-nodes g c lifetimes bounds =
-    subst (λ n. All (λ x. x < n) c.args.others.now) (sym c.in_ok-begun.ensures.nodes) (other_nodes _ _ _ c.requires.order)
+    subst (λ n. All (λ x. x < n) c.args.others.now) (sym c.requires.begun.nodes) (other_nodes _ _ _ c.requires.order)
 
 pub loop-node-init : goal.loop-node-init
 loop-node-init g c =
     let first = c.in_ok-construction.ensures in
-    let begun = c.in_ok-begun.ensures in
-    let ranked = subst (λ n. IsRanked c.args.by n c.args.hops.number c.args.others.now (progress_of c.in_ok-begun.begun)
+    let begun = c.requires.begun in
+    let ranked = subst (λ n. IsRanked c.args.by n c.args.hops.number c.args.others.now (progress_of c.args.begun)
     (progress_of c.in_ok-construction.construction)) begun.nodes first.ranked in (
       first.sizes,
       first.nodes ∙ begun.nodes,
