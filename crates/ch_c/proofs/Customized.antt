@@ -1,9 +1,7 @@
 -- A closed handle that opens with a topology.
 use Rattle.std.proofs.Common.{◌≡◌, ℕ, List, inl, refl, sym, ap, ◌∙◌, subst}
 use Rattle.std.specs.Prelude.{Option, None, Some}
-use Rattle.ch_hierarchy.specs.Hierarchy.{LevelsAndLegs}
 use Rattle.ch_engine.specs.Held.{Held, only}
-use Rattle.ch_engine.specs.Lines.{Lines}
 use Rattle.ch_engine.specs.Topologies.{EndsAndPairs, IsOpenedWith}
 use Rattle.ch_c.specs.declared.faults.Fault.{Fault}
 use Rattle.ch_c.specs.declared.status.TheConstants.{OK}

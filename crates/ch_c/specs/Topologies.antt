@@ -1,7 +1,6 @@
 -- The results of the calls for C on topologies, and the state after them.
 use Rattle.std.specs.Prelude.{◌≡◌, ◌≢◌, ◌⊎◌, ℕ, List, length, Option, Some, None}
 use Rattle.ch_hierarchy.specs.Hierarchy.{LevelsAndLegs}
-use Rattle.ch_read.specs.declared.fault.FaultKind.{FaultKind}
 use Rattle.ch_engine.specs.declared.fault.OpenError.{OpenError}
 use Rattle.ch_engine.specs.declared.topology_error.TopologyError.{TopologyError}
 use Rattle.ch_engine.specs.Held.{Held, only}

@@ -1,6 +1,5 @@
 -- The room that a flow through a part has.
-use Rattle.std.specs.Prelude.{◌≡◌, ℕ, ◌≤◌, length}
-use Rattle.std.specs.Vec.{vec_len}
+use Rattle.std.specs.Prelude.{◌≡◌, ◌≤◌, length}
 use Rattle.ch_dissect.specs.declared.part.Part.{Part}
 use Rattle.ch_dissect.specs.declared.flow.Flow.{Flow}
 use Rattle.ch_dissect.specs.Rows.{AreBelow}

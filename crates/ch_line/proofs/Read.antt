@@ -22,11 +22,10 @@ module _ {I : Type 0} (gives : I → List ℕ → Result ℕ DeviceFault → I �
   source-told graph Source.Built new reads same = (tt, rw reads more)
   source-told graph (Source.Saved old) (Source.Saved new) reads same =
       (record { lines = reads.lines.reads.refused; check = reads.check }, (refl, record { same = cc; once = reads.lines.reads.once }, more))
-  source-told graph (Source.Like old fresh hops) (Source.Like new fresh' hops') reads same =
-      (
-        record { lines = reads.lines.reads.refused; nodes = reads.order; crowded = reads.crowded },
-        (refl, record { same = cc; once = reads.lines.reads.once }, more),
-      )
+  source-told graph (Source.Like old fresh hops) (Source.Like new fresh' hops') reads same = (
+    record { lines = reads.lines.reads.refused; nodes = reads.order; crowded = reads.crowded },
+    (refl, record { same = cc; once = reads.lines.reads.once }, more),
+  )
   source-told graph _ _ reads same = absurd reads
 
   -- the same of a list of sources

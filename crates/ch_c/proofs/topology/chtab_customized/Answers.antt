@@ -1,9 +1,8 @@
 -- The closed handle opens with the engine of the open topology.
-use Rattle.std.proofs.Common.{rules, ◌≡◌, inl, refl, sym, ap, ◌∙◌, subst}
-use Rattle.std.specs.Prelude.{Option, None, Some}
-use Rattle.ch_engine.specs.Held.{Held, only}
+use Rattle.std.proofs.Common.{rules, ◌≡◌, subst}
+use Rattle.std.specs.Prelude.{None, Some}
+use Rattle.ch_engine.specs.Held.{Held}
 use Rattle.ch_engine.specs.Topologies.{EndsAndPairs, IsOpenedWith}
-use Rattle.ch_c.specs.Topologies.{IsCustomizing}
 use Rattle.ch_c.proofs.Customized.{opened_with}
 use Rattle.ch_c.proofs.topology.chtab_customized.Goals as goal
 

@@ -1,5 +1,4 @@
 -- The queue has nodes.
-use Rattle.std.proofs.Common.{◌≡◌}
 use Rattle.ch_dissect.specs.Rows.{AreBelow}
 use Rattle.ch_dissect.proofs.walk.flood.Given as goal
 

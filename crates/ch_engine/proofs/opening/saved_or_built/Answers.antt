@@ -1,5 +1,5 @@
 -- A fault is the first of the saved bytes, or of the hierarchy for the graph, and without one it is right.
-use Rattle.std.proofs.Common.{rules, ◌≡◌, ℕ, Err, refl, sym, ap, subst}
+use Rattle.std.proofs.Common.{rules, ℕ, Err, refl, sym, ap, subst}
 use Rattle.ch_hierarchy.specs.Saved.{IsFirstFault}
 use Rattle.ch_read.specs.Checks.{IsFault}
 use Rattle.ch_read.specs.Names.{NamesSaved}

@@ -1,5 +1,4 @@
 -- The flow has its room.
-use Rattle.std.proofs.Common.{◌≡◌}
 use Rattle.ch_dissect.specs.Flows.{IsFlowOf}
 use Rattle.ch_dissect.proofs.flow.Flow.add_ways.Given as goal
 
