@@ -205,14 +205,32 @@ class Bends(Inputs):
         return f"Liechtenstein with every bend, {self.nodes:,} nodes"
 
 
+class File(Inputs):
+    """The same on the network of a file."""
+
+    def __init__(self, path):
+        self.path = pathlib.Path(path)
+        super().__init__(nodes_of(path))
+
+    def network(self):
+        return self.path
+
+    @property
+    def name(self):
+        return f"{self.path.name}, {self.nodes:,} nodes"
+
+
 # The words for networks.
-NETWORKS = "shipped: the network of Liechtenstein in examples/; bends: the same with a node at each bend; a number: a road network of so many nodes"
+NETWORKS = "shipped: the network of Liechtenstein in examples/; bends: the same with a node at each bend; a number: a road network of so many nodes; \
+FILE.gr: that of a file"
 
 
 def network(word):
     """The inputs on the network that one of these words asks for."""
     named = {"shipped": Country, "bends": Bends}
-    return named[word]() if word in named else Inputs(int(word))
+    if word in named:
+        return named[word]()
+    return File(word) if word.endswith(".gr") else Inputs(int(word))
 
 
 def add_networks(parser, *default):
