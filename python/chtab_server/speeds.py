@@ -70,8 +70,7 @@ def read_speeds(path: str) -> Speeds:
         one, other, speed = lines[place := int(numpy.argmin(is_right))].tolist()
         why = (
             f"the speed {speed:g} is no number above 0" if is_node[place]
-            else "a node is no whole number"
-        )
+            else "a node is no whole number")
         raise FileFault(f"{path}: {why}, in the line from {one:.16g} to {other:.16g}")
     starts, ends = nodes.T.astype(numpy.int64)
     return Speeds(starts, ends, speeds, stamp)

@@ -28,22 +28,25 @@ if TYPE_CHECKING:
 VERSION = 1_003_000
 NAME = "libchtab.so.1"
 # The statuses of calls, as in `chtab_status` of the header.
-OK, NO_MEMORY, CLOSED, IS_OPEN, NODE_RANGE, LENGTHS, TOO_LARGE, TOO_SHORT, BAD_GRAPH, BAD_SAVED, WRONG_SAVED, NO_PLACES, SUM_TOO_LARGE, \
-    OTHER_NODES, FRESH_RANGE, TRIANGLES = range(16)
-# The limit that excludes no distance, and the distance where there is no walk, which is -1 as a signed number of 64 bits.
+(
+    OK, NO_MEMORY, CLOSED, IS_OPEN, NODE_RANGE, LENGTHS, TOO_LARGE, TOO_SHORT, BAD_GRAPH, BAD_SAVED,
+    WRONG_SAVED, NO_PLACES, SUM_TOO_LARGE, OTHER_NODES, FRESH_RANGE, TRIANGLES,
+) = range(16)
+# The limit that excludes no distance, and the distance where there is no walk, which is -1 as a
+# signed number of 64 bits.
 NO_LIMIT = NO_DISTANCE = 2**64 - 1
-# The number of places of a near row that excludes none, and the line for a node that no arc leads to.
+# The number of places of a near row that excludes none, and the line for a node that no arc leads
+# to.
 ALL = NO_LINE = 2**32 - 1
 # The faults of files, by the number of `chtab_fault_kind`, in the words of the program.
 KINDS = (
-    "", "unknown line", "bad problem line", "second problem line", "no problem line", "bad line", "node out of range", "weight too large",
-    "size too large", "too many lines", "too few lines", "order", "pair", "bound", "base", "middle", "arc", "lower",
-)
+    "", "unknown line", "bad problem line", "second problem line", "no problem line", "bad line",
+    "node out of range", "weight too large", "size too large", "too many lines", "too few lines",
+    "order", "pair", "bound", "base", "middle", "arc", "lower")
 GONE = "the network is closed"
 DENSE = (
     "the network has more than 40 triangles a node in this order, so that its weights can't be "
-    "customized in little time"
-)
+    "customized in little time")
 # Up to this many pairs are asked for without arrays.
 FEW = 16
 
@@ -82,41 +85,39 @@ ARRAY = ctypes.c_void_p, ctypes.c_size_t
 HANDLE, TOPOLOGY = ctypes.POINTER(Block), ctypes.POINTER(TopologyBlock)
 # The arguments of each call. `CDLL` lets other threads run during a call.
 CALLS = {
-    "chtab_open": (HANDLE, ctypes.c_char_p, ctypes.c_size_t, ctypes.c_char_p, ctypes.c_size_t, ctypes.POINTER(Fault)),
+    "chtab_open": (
+        HANDLE, ctypes.c_char_p, ctypes.c_size_t, ctypes.c_char_p, ctypes.c_size_t,
+        ctypes.POINTER(Fault)),
     "chtab_open_arrays": (
         HANDLE, ctypes.c_uint32, *ARRAY, *ARRAY, *ARRAY, ctypes.c_char_p, ctypes.c_size_t,
-        ctypes.POINTER(Fault),
-    ),
+        ctypes.POINTER(Fault)),
     "chtab_open_quick": (HANDLE, ctypes.c_char_p, ctypes.c_size_t, ctypes.POINTER(Fault)),
-    "chtab_open_like": (HANDLE, ctypes.c_char_p, ctypes.c_size_t, HANDLE, ctypes.c_uint32, ctypes.POINTER(Fault)),
+    "chtab_open_like": (
+        HANDLE, ctypes.c_char_p, ctypes.c_size_t, HANDLE, ctypes.c_uint32, ctypes.POINTER(Fault)),
     "chtab_topology_open": (
         TOPOLOGY, ctypes.c_char_p, ctypes.c_size_t, ctypes.c_char_p, ctypes.c_size_t,
-        ctypes.POINTER(Fault),
-    ),
+        ctypes.POINTER(Fault)),
     "chtab_topology_open_arrays": (
         TOPOLOGY, ctypes.c_uint32, *ARRAY, *ARRAY, ctypes.c_char_p, ctypes.c_size_t,
-        ctypes.POINTER(Fault),
-    ),
-    "chtab_topology_share": (TOPOLOGY, TOPOLOGY),
-    "chtab_topology_order": (TOPOLOGY, *ARRAY),
-    "chtab_topology_close": (TOPOLOGY,),
+        ctypes.POINTER(Fault)), "chtab_topology_share": (TOPOLOGY, TOPOLOGY),
+    "chtab_topology_order": (TOPOLOGY, *ARRAY), "chtab_topology_close": (TOPOLOGY,),
     "chtab_customized": (HANDLE, TOPOLOGY, *ARRAY, ctypes.POINTER(Fault)),
-    "chtab_share": (HANDLE, HANDLE),
-    "chtab_close": (HANDLE,),
+    "chtab_share": (HANDLE, HANDLE), "chtab_close": (HANDLE,),
     "chtab_nodes": (HANDLE, ctypes.POINTER(ctypes.c_uint32)),
     "chtab_save": (HANDLE, ctypes.POINTER(ctypes.c_uint64), *ARRAY),
     "chtab_distances": (HANDLE, *ARRAY, *ARRAY, *ARRAY),
     "chtab_table": (HANDLE, *ARRAY, *ARRAY, ctypes.c_uint64, *ARRAY),
     "chtab_route": (HANDLE, ctypes.c_uint32, ctypes.c_uint32, ctypes.POINTER(Found), *ARRAY),
-    "chtab_routes": (HANDLE, *ARRAY, *ARRAY, ctypes.POINTER(ctypes.c_uint64), *ARRAY, *ARRAY, *ARRAY, *ARRAY),
-    "chtab_route_sums": (HANDLE, *ARRAY, *ARRAY, *ARRAY, ctypes.POINTER(ctypes.c_uint64), *ARRAY, *ARRAY),
+    "chtab_routes": (
+        HANDLE, *ARRAY, *ARRAY, ctypes.POINTER(ctypes.c_uint64), *ARRAY, *ARRAY, *ARRAY, *ARRAY),
+    "chtab_route_sums": (
+        HANDLE, *ARRAY, *ARRAY, *ARRAY, ctypes.POINTER(ctypes.c_uint64), *ARRAY, *ARRAY),
     "chtab_flows_table": (HANDLE, *ARRAY, *ARRAY, *ARRAY, ctypes.POINTER(ctypes.c_uint64), *ARRAY),
     "chtab_flows": (HANDLE, *ARRAY, *ARRAY, *ARRAY, ctypes.POINTER(ctypes.c_uint64), *ARRAY),
     "chtab_near_places": (HANDLE, ctypes.c_uint32, *ARRAY, ctypes.c_uint64, ctypes.c_uint32),
     "chtab_near_sweep": (HANDLE,),
     "chtab_near_rows": (HANDLE, *ARRAY, ctypes.POINTER(ctypes.c_uint64), *ARRAY, *ARRAY, *ARRAY),
-    "chtab_near_sums": (HANDLE, *ARRAY, *ARRAY, *ARRAY, ctypes.POINTER(ctypes.c_uint64), *ARRAY),
-}
+    "chtab_near_sums": (HANDLE, *ARRAY, *ARRAY, *ARRAY, ctypes.POINTER(ctypes.c_uint64), *ARRAY)}
 
 
 def beside(program: str) -> str | None:
@@ -272,20 +273,26 @@ class Handle:
         see_that_opened(status, fault, saved)
 
     def open_like(self, graph: bytes, other: Handle, fresh: int) -> None:
-        """Opens the network of a graph with as many nodes as that of another handle, whose hierarchy is built in the order of that one's. Only the
-        last `fresh` per cent of the nodes, from 0 to 100, are ordered afresh. The other handle can't be asked meanwhile, and keeps its network.
+        """Opens the network of a graph with as many nodes as that of another handle, whose
+        hierarchy is built in the order of that one's. Only the last `fresh` per cent of the nodes,
+        from 0 to 100, are ordered afresh. The other handle can't be asked meanwhile, and keeps its
+        network.
 
-        What is wrong with the graph is a `ProgramFault`, and another number of nodes a `ValueError`.
+        What is wrong with the graph is a `ProgramFault`, and another number of nodes a
+        `ValueError`.
         """
         if type(graph) is not bytes:
             raise TypeError("files are bytes")
         if other is self or not 0 <= fresh < 2**32:
-            raise ValueError("a network is opened in the order of another handle, with a per cent from 0 to 100 afresh")
+            raise ValueError(
+                "a network is opened in the order of another handle, with a per cent from 0 to 100 "
+                "afresh")
         fault = Fault()
         # In one order, so that two calls never wait for each other.
         first, second = sorted((self.lock, other.lock), key=id)
         with first, second:
-            status = self.calls.chtab_open_like(self.at, graph, len(graph), other.at, fresh, ctypes.byref(fault))
+            status = self.calls.chtab_open_like(
+                self.at, graph, len(graph), other.at, fresh, ctypes.byref(fault))
         if status:
             raise fault_of(status, fault)
 
@@ -551,11 +558,11 @@ def see_that_done(status: int) -> None:
 # What calls refuse, by their statuses.
 REFUSED = {
     NODE_RANGE: "a node is not one of the network", LENGTHS: "the lengths of columns don't fit",
-    TOO_LARGE: "a table has at most 65,536 sources and as many targets, and so many places are kept",
+    TOO_LARGE:
+        "a table has at most 65,536 sources and as many targets, and so many places are kept",
     NO_PLACES: "no places are kept", SUM_TOO_LARGE: "a sum is 2^64 or more",
     OTHER_NODES: "the graph has another number of nodes",
-    FRESH_RANGE: "more than 100 per cent of the nodes would be ordered afresh",
-}
+    FRESH_RANGE: "more than 100 per cent of the nodes would be ordered afresh"}
 
 
 def given_bytes(saved: bytes | None) -> bytes:

@@ -30,8 +30,7 @@ def is_lone(general: options.General, own: options.Route, count: int) -> bool:
     return (
         count == 2 and own.overview == "false" and not own.has_steps and not own.annotations
         and not own.alternatives and own.waypoints is None
-        and not (general.has_radiuses or general.has_bearings or general.has_curbs)
-    )
+        and not (general.has_radiuses or general.has_bearings or general.has_curbs))
 
 
 class Way(NamedTuple):

@@ -113,8 +113,7 @@ class Places:
             more = max(count, 2 * room) - room
             self.fractions, self.wholes = (
                 numpy.concatenate([kept, numpy.empty((more, kept.shape[1]), kept.dtype)])
-                for kept in (self.fractions, self.wholes)
-            )
+                for kept in (self.fractions, self.wholes))
 
     def spots(self, rows: list[int]) -> Spots:
         """The spots of some rows."""
@@ -124,8 +123,7 @@ class Places:
         return Spots(
             x, y, metres, wholes[:, 0], parts, wholes[:, out:into], wholes[:, behind:end],
             wholes[:, into:behind], wholes[:, end:], wholes[:, 1], fractions[:, 4:],
-            self.roads.origin,
-        )
+            self.roads.origin)
 
     def cuts(self) -> tuple[int, int, int, int]:
         """Where the nodes out of roads begin among the columns of whole numbers, then the nodes
