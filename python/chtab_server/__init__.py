@@ -7,6 +7,7 @@ requests and answers.
 | `serving` | the processes of the service, and listening |
 | `networks` | networks and their files |
 | `stored`, `mapped` | what is made of these files and kept in columns |
+| `speeds`, `weighing` | speeds of a file, and networks with these |
 | `queue` | the order in which requests are answered |
 | `requests` | requests in JSON, and their limits |
 | `faults` | the answers to requests that can't be answered |

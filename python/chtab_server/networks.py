@@ -146,7 +146,7 @@ class Served:
         """Starts the engine if it is not there. A forked process takes what the first one has
         opened."""
         engine = self.engine
-        if self.opened is not None and not engine.living():
+        if self.opened is not None and engine.first is None:
             engine.begin_with(self.opened)
         else:
             engine.load()
@@ -192,7 +192,7 @@ class Networks:
 
     def are_ready(self) -> bool:
         """Whether each network has a living engine."""
-        return all(each.engine.living() for each in self.served)
+        return all(each.engine.first is not None for each in self.served)
 
     def close(self) -> None:
         for each in self.served:

@@ -345,8 +345,8 @@ class Service:
     def note(self, connections: int | None = None) -> None:
         """Notes the states of this process, for whichever process answers with the metrics."""
         engines = [each.engine for each in self.networks]
-        living, begun = (
-            sum(engine.living() for engine in engines), sum(engine.begun for engine in engines))
+        living = sum(engine.first is not None for engine in engines)
+        begun = sum(engine.begun for engine in engines)
         self.row.note(
             waiting=self.turns.unanswered, engines=living, begun=self.begun_before + begun,
             memory=resident_bytes())

@@ -21,6 +21,7 @@ from chtab._engine.stamps import stamp_of
 from chtab.errors import ChtabError, FileFault
 from chtab._files.arc_columns import MOST_WEIGHT
 from chtab._roads.snapping import NONE
+from chtab_server.weighing import weighed
 
 if TYPE_CHECKING:
     from chtab._engine.stamps import Stamp
@@ -174,7 +175,7 @@ class Traffic:
         found = []
         for base, pieces, customizing in zip(self.bases, self.pieces, self.customizing):
             weights, count = pieces.weighed(speeds)
-            found.append(base._weighed(weights, customizing))
+            found.append(weighed(base, weights, customizing))
             lines = f"{count:,} of {len(speeds.speeds):,} lines are of roads"
             LOG.info("%s: %s", self.path, lines)
         return found, speeds.stamp[3] / 1e9

@@ -67,13 +67,11 @@ class Flows:
 
 
 class InProcess:
-    """Answers questions about nodes, which count from 1, of threads and forked processes.
+    """Answers questions about nodes, which count from 1, of threads and forked processes."""
 
-    The first question of a thread makes a handle for it, on the one network in memory. The first
-    handle opens it, and belongs to the first thread that asks, or after its end to the next new
-    one. A forked process opens the network anew, and leaves the handles of its parent alone.
-    """
-
+    # The first question of a thread makes a handle for it, on the one network in memory. The first
+    # handle opens it, and belongs to the first thread that asks, or after its end to the next new
+    # one. A forked process opens the network anew, and leaves the handles of its parent alone.
     # Tails, heads and weights of arcs go to the library in place of the graph's file.
     def __init__(self, setting: Setting, arcs: Sequence[Integers] | None = None) -> None:
         for path in setting.files():
@@ -190,7 +188,11 @@ class InProcess:
     @contextlib.contextmanager
     def lent_handle(self) -> Iterator[library.Handle]:
         """Lends a handle to a question of another thread or on near rows, and frees its places."""
-        handle = self.spare_handle()
+        self.see_that_open()
+        with self.lock:
+            first = self.first_handle()
+            handle = self.spare.pop() if self.spare else None
+        handle = handle or self.another(first)
         # A process that is forked meanwhile has a list of its own, and this handle stays with its
         # parent.
         spare = self.spare
@@ -199,19 +201,6 @@ class InProcess:
         with contextlib.suppress(ChtabError):
             handle.keep_places(NO_PLACES)
             spare.append(handle)
-
-    def spare_handle(self) -> library.Handle:
-        """A handle that no question uses."""
-        self.see_that_open()
-        with self.lock:
-            first = self.first_handle()
-            if self.spare:
-                return self.spare.pop()
-        return self.another(first)
-
-    def living(self) -> int:
-        """1 if the network is open in this process, and 0 otherwise."""
-        return int(self.first is not None)
 
     def close(self) -> None:
         """Closes all handles, each once its call has ended; questions with more calls fail."""
@@ -299,7 +288,9 @@ class InProcess:
         """Calls for blocks of a table, which are slices of rows and of columns, until all cells are
         done."""
         side = SIDE if self.setting.timeout is None else SHORT
-        height, width = self.height_of(rows, columns, side), max(1, min(columns, side))
+        # Several threads have a part each.
+        shares = max(1, min(self.setting.workers, rows * columns // WORTH))
+        height, width = max(1, min(side, -(-rows // shares))), max(1, min(columns, side))
         across = -(-columns // width)
 
         def ask(handle: library.Handle, part: slice) -> None:
@@ -308,11 +299,6 @@ class InProcess:
                 call(handle, (slice(row, row + height), slice(column, column + width)))
 
         self.in_parts(-(-rows // height) * across, 1, ask, name, "blocks", progress, height + width)
-
-    def height_of(self, rows: int, columns: int, side: int) -> int:
-        """How many rows of a table are made together, so that several threads have a part of it."""
-        shares = max(1, min(self.setting.workers, rows * columns // WORTH))
-        return max(1, min(side, -(-rows // shares)))
 
     def paths(self, pairs: Integers, progress: Asked = None) -> Paths:
         """The routes of pairs of nodes, an array (n, 2)."""
@@ -325,7 +311,9 @@ class InProcess:
                 some = sources[start:part.stop], targets[start:part.stop]
                 weights, ends, _, lines = handle.routes_with_lines(*some, self.room)
                 if not len(weights):
-                    self.make_room()
+                    if self.room >= max(self.nodes, ROOM):
+                        raise mismatch()
+                    self.room = 2 * self.room
                 arcs = lines[lines != library.NO_LINE]
                 made.append((start, (weights, numpy.diff(ends, prepend=0), arcs)))
                 start += len(weights)
@@ -375,13 +363,7 @@ class InProcess:
 
         def ask(handle: library.Handle, some: tuple[slice, slice]) -> None:
             cells = numpy.ascontiguousarray(demands[some]).reshape(-1)
-            total.add(handle.flows_table(rows[some[0]], columns[some[1]], cells, lines))
+            total.add(handle.flows(rows[some[0]], columns[some[1]], cells, lines, True))
 
         self.in_blocks(len(rows), len(columns), ask, "flows", progress)
         return total.missed, total.flows
-
-    def make_room(self) -> None:
-        """Makes twice as much room for the nodes of routes."""
-        if self.room >= max(self.nodes, ROOM):
-            raise mismatch()
-        self.room = 2 * self.room

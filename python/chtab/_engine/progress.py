@@ -9,17 +9,12 @@ from typing import Any, TypeAlias, TypeVar
 
 # What callers give as `progress`.
 Asked: TypeAlias = bool | Callable[[int, int], Any] | None
-
-# Seconds from one line to the next.
-SECONDS = 10.0
-# Of more things than so many the bar counts thousands and millions.
-MANY = 100_000
-
-
 # A function that gets how many things are done, and of how many.
 Steps: TypeAlias = Callable[[int, int], Any]
-# Seconds from one line to the next where a caller asks for them.
-ASKED_SECONDS = 1.0
+# Seconds from one line to the next, by default and where a caller asks for them.
+SECONDS, ASKED_SECONDS = 10.0, 1.0
+# Of more things than so many the bar counts thousands and millions.
+MANY = 100_000
 
 
 def progress_of(

@@ -34,13 +34,6 @@ class Walks:
     heads: Integers
     arc_weights: Integers
 
-    def __len__(self) -> int:
-        return len(self.weights)
-
-    def counts(self) -> Integers:
-        """How many arcs each walk has."""
-        return numpy.diff(self.firsts)
-
     def sums(self, column: Integers) -> Integers:
         """For each walk the sum of a column over its arcs."""
         return numpy.diff(numpy.append(0, numpy.cumsum(column))[self.firsts])

@@ -66,8 +66,7 @@ class Equilibrium(NamedTuple):
 
 
 def see_that_known(method: str, gap: float, steps: int) -> None:
-    """Refuses a method that there is not, and a gap or a number of steps at which no search
-    ends."""
+    """Refuses an unknown method, and a gap or a number of steps at which no search ends."""
     if method not in METHODS:
         raise ValueError(f"method is one of {', '.join(METHODS)}, not {method!r}")
     if isinstance(steps, bool) or not isinstance(steps, int | numpy.integer) or steps < 1:
@@ -77,8 +76,7 @@ def see_that_known(method: str, gap: float, steps: int) -> None:
 
 
 class Rows:
-    """The rows of the arcs of a network, as traffic has them: each leads one way, and has a flow
-    and a time."""
+    """The rows of the arcs of a network, each of which leads one way, and has a flow and a time."""
 
     def __init__(self, layers: Layers, measure: Measure) -> None:
         self.layers, self.measure, self.count = layers, measure, layers.row_count
@@ -119,8 +117,7 @@ class Rows:
         return self.column("tolls", tolls) / float(value_of_time)
 
     def bpr(self, capacity: Any, alpha: Any, beta: Any) -> Bpr:
-        """The function of the Bureau of Public Roads, whose free times are the weights of the
-        network. A row whose arc is closed has no flow."""
+        """The function of the Bureau of Public Roads, with the network's weights as free times."""
         if capacity is None:
             raise ValueError(
                 "traffic needs a capacity for each row, or times, a function of the flows")
@@ -130,22 +127,15 @@ class Rows:
             raise refused(
                 "capacity", none, "0 lets nothing through: close the arc by `changed` instead")
         free = numpy.zeros(self.count)
-        free[self.layers.rows] = (
-            numpy.asarray(self.layers.graph.weights, float) / self.measure.factor)
+        weights = numpy.asarray(self.layers.graph.weights, float)
+        free[self.layers.rows] = weights / self.measure.factor
         return Bpr(free, capacities, self.column("alpha", alpha), self.column("beta", beta))
 
     def rounded(self, costs: Floats) -> tuple[Floats, float]:
-        """Costs as the weights of a network with these costs, in the network's unit; and the
-        largest rounding of one, in this unit."""
+        """Costs as the weights of a network, in its unit, and the largest rounding of one."""
         factor = self.measure.factor
-        whole_weights = numpy.rint(costs * factor)
-        return (
-            (whole_weights if factor == 1 else whole_weights / factor),
-            float(abs(whole_weights / factor - costs).max(initial=0)))
-
-    def times(self, call: Callable[[Floats], ArrayLike]) -> Given:
-        """Times by a function of the caller's."""
-        return Given(call, self.count)
+        rounded = numpy.rint(costs * factor) / factor
+        return rounded, float(abs(rounded - costs).max(initial=0))
 
 
 def equilibrium_of(
@@ -178,8 +168,8 @@ class Bpr(NamedTuple):
     def slopes(self, flows: Floats) -> Floats:
         """The derivative of each time by its flow."""
         with numpy.errstate(divide="ignore", invalid="ignore"):
-            found = self.free * self.alpha * self.beta * (flows / self.capacity) ** (
-                self.beta - 1) / self.capacity
+            shares = (flows / self.capacity) ** (self.beta - 1)
+            found = self.free * self.alpha * self.beta * shares / self.capacity
         return numpy.nan_to_num(found, nan=0.0, posinf=0.0)
 
 
@@ -201,8 +191,7 @@ class Given(NamedTuple):
         return found
 
     def slopes(self, flows: Floats) -> Floats:
-        """About the derivative of each time by its flow. It decides on directions alone, and not on
-        the answer."""
+        """About the derivative of each time by its flow, which decides on directions alone."""
         by = DIFFERENCE * numpy.maximum(flows, 1.0)
         return numpy.maximum(0.0, (self.times(flows + by) - self.times(flows)) / by)
 
@@ -266,8 +255,8 @@ class Search:
         self.towards = [] if self.length >= WHOLE_STEP else [point, *self.towards[:1]]
 
     def conjugate(self, fastest: Floats) -> Floats:
-        """The point for the next step: one whose direction is conjugate to those of the last two
-        steps, as far as it is between points of flows."""
+        """The point for the next step, in a direction conjugate to those of the last two if it can
+        be."""
         if not self.towards:
             return fastest
         slopes, ahead = self.curve.slopes(self.flows), fastest - self.flows
@@ -279,28 +268,23 @@ class Search:
         before = self.towards[1]
         two = self.length * last + (1 - self.length) * before - self.flows
         mu = max(0.0, -part(float(slopes * two @ ahead), float(slopes * two @ (before - last))))
-        nu = max(
-            0.0,
-            -part(float(slopes * one @ ahead), float(slopes * one @ one)) + mu * self.length / (
-                1 - self.length))
+        back = part(float(slopes * one @ ahead), float(slopes * one @ one))
+        nu = max(0.0, mu * self.length / (1 - self.length) - back)
         return (fastest + nu * last + mu * before) / (1 + nu + mu)
 
     def line(self, direction: Floats) -> float:
         """The length of the step, up to 1, at which costs along the direction are least."""
         def slope(length: float) -> float:
-            return float(
-                self.costs(numpy.maximum(0.0, self.flows + length * direction)) @ direction)
+            flows = numpy.maximum(0.0, self.flows + length * direction)
+            return float(self.costs(flows) @ direction)
 
         below, above = slope(0.0), slope(1.0)
         return 1.0 if above <= 0 else root(slope, below, above)
 
 
 def root(slope: Callable[[float], float], below: float, above: float) -> float:
-    """Where a slope passes 0 that is below it at 0, above it at 1, and never falls.
-
-    It is found by false positions (the Illinois method), and each third time by halves. The slope
-    at the answer is at most 0.
-    """
+    """Where a slope that never falls passes 0 on the way from 0 to 1; it is at most 0 there."""
+    # By false positions (the Illinois method), and each third time by halves.
     low, high, last, step = 0.0, 1.0, 0, 0
     while high - low > NEAR:
         middle = (

@@ -82,22 +82,6 @@ class Layers:
         paths = [self.paths[name] for name in ("coordinates", "bends", "labelling")]
         return Layers, (self.path, *paths, self.asked)
 
-    def weighed(self, weights: Integers) -> Layers:
-        """The layers of the same network with other weights of its arcs. What depends on no weight
-        is shared."""
-        roads = self.roads.weighed(weights)
-        with self.lock:
-            kept = {name: value for name, value in self.kept.items() if name != "graph"}
-        other = Layers(self.path, asked=self.asked)
-        other.paths, other.stamps = self.paths, self.stamps
-        other.kept = kept | {
-            "roads": roads,
-            "graph": files.Graph(
-                files.count_nodes(self.path), fixed(roads.tails), fixed(roads.heads),
-                fixed(roads.weights), files.read_unit(self.path)),
-        }
-        return other
-
     @of_files
     def graph(self) -> files.Graph:
         """The arcs, as `files.read_graph` gives them, in arrays that can't be written to."""

@@ -11,7 +11,7 @@ from typing import TYPE_CHECKING, NamedTuple
 
 import numpy
 
-from chtab._engine.walks import Walks, ranges
+from chtab._engine.walks import Walks
 from chtab._near import blocks
 from chtab._near.question import NearQuestion
 from chtab._roads.legs import FAR, Legs
@@ -20,7 +20,7 @@ from chtab._roads.snapping import NANOMETRE, NONE
 if TYPE_CHECKING:
     from chtab._roads.snapping import Roads, Spots
     from chtab._roads.trips import Trips
-    from chtab.typing import Integers, Marks
+    from chtab.typing import Integers
 
 # How much longer than the best way an alternative may be, and each detour of it; how much of the
 # best way it may share; and the part of the best way up to which its parts are best ways.

@@ -9,11 +9,11 @@ from typing import TYPE_CHECKING, Any, NamedTuple
 import numpy
 
 from chtab_maps import profiles
-from chtab._roads.legs import FAR, legs_between, legs_by, metres_by, table_ways, table_weights
+from chtab._roads.legs import FAR, legs_between, legs_by, table_ways
 from chtab._roads.lines import metres_between
 from chtab._roads.snapping import length_text
 from chtab_server.osrm import (
-    alternatives, cells, curb, lone, matching, nearby, options, telling, tours, url)
+    alternatives, cells, curb, lone, matching, nearby, options, tables, telling, tours, url)
 from chtab_server.osrm.crossings import Crossings
 from chtab_server.osrm.drawing import Drawing
 from chtab_server.osrm.options import Refusal
@@ -401,7 +401,7 @@ class Answers:
         """The weight of the best way of each cell, `FAR` where there is none, and its metres, if
         they are asked for."""
         if not has_metres:
-            return table_weights(self.network._trips, starts, ends), None
+            return tables.table_weights(self.network._trips, starts, ends), None
         best, ways = table_ways(self.network._trips, starts, ends)
         return best, self.metres(starts, ends, best, ways)
 
@@ -411,7 +411,7 @@ class Answers:
         metres = numpy.zeros(best.shape)
         for first in range(0, len(rows), BATCH):
             row, column = rows[first:first + BATCH], columns[first:first + BATCH]
-            metres[row, column] = metres_by(
+            metres[row, column] = tables.metres_by(
                 self.network._trips, starts, row, ends, column, best[row, column],
                 ways[row, column])
         return metres

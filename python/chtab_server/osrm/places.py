@@ -94,7 +94,10 @@ class Places:
 
     def few(self, places: Sequence[Point]) -> tuple[list[Any], list[Any]]:
         """The columns of a few places, one by one."""
-        found, sides = self.roads.few(*zip(*places)), FORWARD | BACKWARD
+        self.roads.see_that_some()
+        longitudes, latitudes = zip(*places)
+        on_lines = self.roads.lines.nearest_few(numpy.array(longitudes), numpy.array(latitudes))
+        found, sides = self.roads.few_on(longitudes, latitudes, on_lines), FORWARD | BACKWARD
         fractions = [(*each[:3], each.part, *place) for each, place in zip(found, places)]
         return fractions, [(each.road, sides, *each.nodes, *each.weights) for each in found]
 

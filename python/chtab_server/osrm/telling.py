@@ -8,13 +8,14 @@ from typing import TYPE_CHECKING, Any, NamedTuple
 
 import numpy
 
+from chtab._engine.walks import ranges
 from chtab._roads.legs import Traces
 from chtab_server.osrm import cells, polylines
 from chtab_server.osrm.drawing import Drawing, Drawn
 from chtab_server.osrm.steps import Lines, Steps, Told
 
 if TYPE_CHECKING:
-    from chtab._roads.legs import Legs, Trace
+    from chtab._roads.legs import Legs
     from chtab_server.osrm.options import Route
     from chtab.typing import Floats, Integers
 
@@ -27,6 +28,15 @@ MILLISECONDS = 1_000
 DECIMALS, MANY = {"duration": 3, "weight": 3, "distance": 3, "speed": 1}, 24
 # The source of all durations.
 METADATA = {"datasource_names": ["graph"]}
+
+
+class Trace(NamedTuple):
+    """The line of one leg, as `Traces` has those of several."""
+
+    places: Floats
+    weights: Integers
+    metres: Floats
+    nodes: Integers
 
 
 class Voice(NamedTuple):
@@ -126,7 +136,8 @@ def leg_text(voice: Voice, legs: Legs, which: list[int], options: Route, told: O
     steps, more = told.steps.get(which[0]), ""
     if options.annotations:
         parts = [
-            annotation(told.traces.of(told.places[leg]), options.annotations, voice.numbers)
+            annotation(
+                trace_of(told.traces, told.places[leg]), options.annotations, voice.numbers)
             for leg in which]
         more = (
             f' "annotation": {annotation_text(parts[0] if len(parts) == 1 else together(parts))},')
@@ -195,6 +206,21 @@ def numbers_text(column: Integers, digits: int) -> str:
     return cells.rows(column[None], digits, numpy.ones((1, len(column)), bool))[1:-1]
 
 
+def trace_of(traces: Traces, leg: int) -> Trace:
+    """The trace of one leg."""
+    own = slice(*traces.firsts[leg:leg + 2])
+    return Trace(traces.places[own], traces.weights[own], traces.metres[own], traces.nodes[own])
+
+
+def chosen(traces: Traces, which: Integers) -> Traces:
+    """Some of several traces, by an array of their numbers."""
+    counts = numpy.diff(traces.firsts)[which]
+    own = ranges(traces.firsts[which], counts)
+    return Traces(
+        traces.places[own], traces.weights[own], traces.metres[own], traces.nodes[own],
+        numpy.append(0, numpy.cumsum(counts)))
+
+
 def between(column: Any) -> Any:
     """The differences along a line. A line of a single place counts as two."""
     return column[1:] - column[:-1] if len(column) > 1 else column
@@ -220,7 +246,7 @@ def geometries(
         if overview == "full":
             found |= zip(some, drafts.drawings[form].lines_of(drafts.of(form, which), counts))
         else:
-            own = traces.chosen(numpy.array([places[leg] for leg in which]))
+            own = chosen(traces, numpy.array([places[leg] for leg in which]))
             line, cuts = joined(*simplified(own.places, own.firsts, counts), counts)
             found |= zip(some, polylines.texts(line, cuts[:-1], form))
     return found
