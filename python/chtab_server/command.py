@@ -312,8 +312,8 @@ def serve_all(words: argparse.Namespace, networks: Networks, choices: Choices, p
     gc.freeze()
     if words.processes == 1:
         return asyncio.run(serve(service(0), port, tell))
-    return Family(words.processes, service, metrics, port, networks.told, traffic is not None).run(
-        tell)
+    return Family(
+        words.processes, service, metrics, port, networks.translated, traffic is not None).run(tell)
 
 
 def command() -> None:

@@ -38,9 +38,10 @@ def fault(
 
 
 def fault_of(
-    request: web.BaseRequest, raised: Exception, most_bytes: int, told: Callable[[str], str],
+    request: web.BaseRequest, raised: Exception, most_bytes: int, translated: Callable[[str], str],
 ) -> web.Response:
-    """The answer for an exception. `told` replaces names of files by those that the user knows."""
+    """The answer for an exception. `translated` replaces names of files by those that the user
+    knows."""
     match raised:
         case Refusal():
             return fault(request, str(raised), 400, raised.code, raised.code)
@@ -61,7 +62,7 @@ def fault_of(
         case OSError() if raised.errno in NO_NAMES:
             return fault(request, "Not Found", 404)
         case ChtabError():
-            LOG.error("%s", told(str(raised)))
+            LOG.error("%s", translated(str(raised)))
             return fault(request, "the program did not answer; try again", 503, reason="program")
     LOG.error("a request failed", exc_info=raised)
     return fault(request, "the service has a fault", 500)

@@ -59,7 +59,7 @@ class Kept:
         self.paths[path] = name
         return path
 
-    def told(self, text: str) -> str:
+    def translated(self, text: str) -> str:
         """A text with the original names of files."""
         # The longest first, because one path may be the start of another.
         for path in sorted(self.paths, key=len, reverse=True):
@@ -108,7 +108,7 @@ class Served:
         try:
             return stored.read(kept.path(name), self.sums())
         except files.FileFault as fault:
-            LOG.warning("%s; what it has is made anew", kept.told(str(fault)))
+            LOG.warning("%s; what it has is made anew", kept.translated(str(fault)))
             return None
 
     def sums(self) -> dict[str, str]:
@@ -164,7 +164,7 @@ class Networks:
                 self.served.append(Served(each, self.kept, **running))
         except ChtabError as fault:
             self.close()
-            raise ChtabError(self.told(str(fault))) from None
+            raise ChtabError(self.translated(str(fault))) from None
         except BaseException:
             self.close()
             raise
@@ -176,9 +176,9 @@ class Networks:
     def first(self) -> Served:
         return self.served[0]
 
-    def told(self, text: str) -> str:
+    def translated(self, text: str) -> str:
         """A text with the names of files from the command line."""
-        return self.kept.told(text)
+        return self.kept.translated(text)
 
     def load(self) -> None:
         """Starts the engines that are not there."""

@@ -69,8 +69,8 @@ class Pace(NamedTuple):
         return self.seconds * work / self.work
 
 
-class Asked(NamedTuple):
-    """What is asked. `call` answers a list of questions by a list, in which a fault is the answer
+class Task(NamedTuple):
+    """A question. `call` answers a list of questions by a list, in which a fault is the answer
     to its question. Questions of one call that `is_shared` may be answered together, as far as
     their sizes go. The loop may answer one that `is_quick` itself; how long that takes is reckoned
     by the work that questions of its call are."""
@@ -85,12 +85,13 @@ class Asked(NamedTuple):
 
 @dataclass(eq=False)
 class Job:
-    """A question that waits for the client at an address. `told` gets its answer, or the error."""
+    """A question that waits for the client at an address. `settle` gets its answer, or the
+    error."""
 
     address: str
-    asked: Asked
+    task: Task
     is_gone: Callable[[], bool]
-    told: Callable[[Any], object]
+    settle: Callable[[Any], object]
     is_ended: bool = False
 
 
@@ -148,10 +149,10 @@ class Turns:
     def close(self) -> None:
         self.threads.shutdown(wait=False, cancel_futures=True)
 
-    async def answer(self, address: str, asked: Asked, is_gone: Callable[[], bool]) -> Any:
+    async def answer(self, address: str, task: Task, is_gone: Callable[[], bool]) -> Any:
         """Waits for the turn of a client, and returns the answer to its question."""
         waiting: asyncio.Future[Any] = asyncio.get_running_loop().create_future()
-        job = Job(address, asked, is_gone, functools.partial(settle, waiting))
+        job = Job(address, task, is_gone, functools.partial(settle, waiting))
         self.take(job)
         try:
             return await waiting
@@ -178,7 +179,7 @@ class Turns:
         if not job.is_ended:
             job.is_ended = True
             self.unanswered -= 1
-            job.told(found)
+            job.settle(found)
 
     def make_room(self, address: str) -> None:
         """Rejects the newest request of the address with the most waiting requests, if it has more
@@ -208,10 +209,10 @@ class Turns:
 
     def is_moment(self, address: str) -> bool:
         """Whether the first job of an address takes a moment."""
-        asked = self.lines[address][0].asked
+        task = self.lines[address][0].task
         return (
-            asked.is_quick and asked.call in self.paces
-            and self.paces[asked.call].reckoned(asked.work) < MOMENT)
+            task.is_quick and task.call in self.paces
+            and self.paces[task.call].reckoned(task.work) < MOMENT)
 
     def may_begin(self, address: str) -> bool:
         """Whether an address may use another thread. One thread is always kept for the other
@@ -255,7 +256,7 @@ class Turns:
             return
         try:
             found = self.noted(
-                jobs, *answers_to(jobs[0].asked.call, [job.asked.question for job in jobs]))
+                jobs, *answers_to(jobs[0].task.call, [job.task.question for job in jobs]))
         except Exception as fault:
             found = [fault] * len(jobs)
         self.answered = len(jobs)
@@ -264,7 +265,7 @@ class Turns:
 
     def noted(self, jobs: list[Job], found: Sequence[Any], seconds: float) -> Sequence[Any]:
         """The answers to jobs. It is noted how long they took."""
-        call, work = jobs[0].asked.call, sum(job.asked.work for job in jobs)
+        call, work = jobs[0].task.call, sum(job.task.work for job in jobs)
         self.paces[call] = self.paces.get(call, Pace(seconds, work, work)).after(seconds, work)
         return found
 
@@ -274,16 +275,16 @@ class Turns:
         first = self.next_of(address)
         if first is None:
             return []
-        jobs, asked = [first], first.asked
-        size, work, most = asked.size, asked.work, self.most_work(asked)
-        while asked.is_shared and size < self.together:
+        jobs, task = [first], first.task
+        size, work, most = task.size, task.work, self.most_work(task)
+        while task.is_shared and size < self.together:
             other = next(
                 (
                     name for name, line in self.lines.items()
-                    if line[0].asked.is_shared and line[0].asked.call == asked.call), None)
+                    if line[0].task.is_shared and line[0].task.call == task.call), None)
             if other is None:
                 break
-            more = self.lines[other][0].asked
+            more = self.lines[other][0].task
             if size + more.size > self.together or work + more.work > most:
                 break
             job = self.next_of(other)
@@ -292,10 +293,10 @@ class Turns:
                 size, work = size + more.size, work + more.work
         return jobs
 
-    def most_work(self, asked: Asked) -> float:
+    def most_work(self, task: Task) -> float:
         """How much work questions that are answered together may be, so that the loop does
         something else before the moment is over."""
-        pace = self.paces.get(asked.call) if asked.is_quick else None
+        pace = self.paces.get(task.call) if task.is_quick else None
         return math.inf if pace is None else pace.most
 
     def next_of(self, address: str) -> Job | None:
@@ -313,9 +314,9 @@ class Turns:
         """Answers jobs in a thread."""
         loop = asyncio.get_running_loop()
         try:
-            told = await loop.run_in_executor(
-                self.threads, answers_to, jobs[0].asked.call, [job.asked.question for job in jobs])
-            found = self.noted(jobs, *told) if jobs[0].asked.is_quick else told[0]
+            answered = await loop.run_in_executor(
+                self.threads, answers_to, jobs[0].task.call, [job.task.question for job in jobs])
+            found = self.noted(jobs, *answered) if jobs[0].task.is_quick else answered[0]
         except BaseException as fault:
             found = [fault] * len(jobs)
         finally:

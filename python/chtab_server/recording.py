@@ -20,7 +20,7 @@ ACCESS, LOG = logging.getLogger("chtab.access"), logging.getLogger("chtab.servic
 # The seconds between two lines on standard error about one kind of event.
 MINUTE = 60.0
 # The messages about frequent events that an operator has to know of.
-TOLD = {
+MESSAGES = {
     "connections": "connections made way because there were more than there may be",
     "system": "times the system refused a connection"}
 
@@ -49,18 +49,18 @@ def plain_line(entry: Entry) -> str:
     """A line with the time, the client, the request, the status, the bytes and milliseconds of the
     answer, and the reason of a refusal."""
     now = time.strftime("%Y-%m-%dT%H:%M:%SZ", time.gmtime(entry.second))
-    asked = f"{entry.method} {entry.target}" if entry.method else "-"
+    requested = f"{entry.method} {entry.target}" if entry.method else "-"
     more = f' "{escaped(f"{entry.reason}: {entry.message}")}"' if entry.reason else ""
     return (
-        f'{now} {escaped(entry.address) or "-"} "{escaped(asked)}" {entry.status} {entry.size} '
+        f'{now} {escaped(entry.address) or "-"} "{escaped(requested)}" {entry.status} {entry.size} '
         f'{1000 * entry.seconds:.1f}{more}')
 
 
 def combined_line(entry: Entry) -> str:
     """A line in the combined form of Apache and nginx."""
     now = time.strftime("%d/%b/%Y:%H:%M:%S +0000", time.gmtime(entry.second))
-    asked = f"{entry.method} {entry.target} HTTP/{entry.version}" if entry.method else "-"
-    texts = [escaped(text) or "-" for text in (asked, entry.page, entry.agent)]
+    requested = f"{entry.method} {entry.target} HTTP/{entry.version}" if entry.method else "-"
+    texts = [escaped(text) or "-" for text in (requested, entry.page, entry.agent)]
     return '{} - - [{}] "{}" {} {} "{}" "{}"'.format(
         escaped(entry.address) or "-", now, texts[0], entry.status, entry.size, *texts[1:])
 
@@ -119,7 +119,7 @@ class Recorder:
         self.row, self.proxy, self.line_of = row, proxy, FORMS[form]
         # For each kind of event how often it happened since it was last reported, and when that
         # was.
-        self.events: dict[str, list[float]] = {kind: [0, -MINUTE] for kind in TOLD}
+        self.events: dict[str, list[float]] = {kind: [0, -MINUTE] for kind in MESSAGES}
 
     def note(self, request: web.BaseRequest, response: web.StreamResponse, seconds: float) -> None:
         """Records an answered request. `request["refused"]` has the reason and the message of a
@@ -146,7 +146,7 @@ class Recorder:
         if ACCESS.handlers:
             entry = Entry(time.time(), address, "", "", "", status, 0, 0.0, kind, why)
             ACCESS.info("%s", self.line_of(entry))
-        if kind in TOLD:
+        if kind in MESSAGES:
             self.tell(kind)
 
     def tell(self, kind: str) -> None:
@@ -154,5 +154,5 @@ class Recorder:
         event, now = self.events[kind], time.monotonic()
         event[0] += 1
         if now - event[1] >= MINUTE:
-            LOG.warning("%d %s", event[0], TOLD[kind])
+            LOG.warning("%d %s", event[0], MESSAGES[kind])
             event[:] = 0, now

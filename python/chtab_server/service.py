@@ -29,7 +29,7 @@ from chtab_server.faults import fault_of
 from chtab_server.metrics import Metrics
 from chtab_server.osrm import answering, options, url
 from chtab_server.osrm.options import Refusal
-from chtab_server.queue import Asked, Turns
+from chtab_server.queue import Task, Turns
 from chtab_server.requests import (
     Limits, Refused, bytes_in, fields_of, number_in, place_in, places_in,
 )
@@ -196,7 +196,7 @@ class Service:
 
     def fault(self, request: web.Request, raised: Exception) -> web.Response:
         """The answer for an exception. If an engine failed, it is checked."""
-        response = fault_of(request, raised, self.limits.body, self.networks.told)
+        response = fault_of(request, raised, self.limits.body, self.networks.translated)
         if request.get("refused", ("",))[0] == "program":
             self.is_failing = True
             self.doubt.set()
@@ -205,10 +205,10 @@ class Service:
     async def close(self, app: web.Application) -> None:
         self.turns.close()
 
-    async def answer(self, request: web.Request, asked: Asked) -> Any:
+    async def answer(self, request: web.Request, task: Task) -> Any:
         """Waits for the client's turn, and returns the answer to its question."""
         return await self.turns.answer(
-            client_of(request, self.proxy), asked, lambda: is_gone(request))
+            client_of(request, self.proxy), task, lambda: is_gone(request))
 
     async def answer_alone(
         self, request: web.Request, call: Callable[..., Any], *words: Any,
@@ -238,17 +238,17 @@ class Service:
         fields = fields_of(await self.body_of(request), ("from", "to"))
         places = [place_in(fields[name], name) for name in ("from", "to")]
         return self.json_of(
-            await self.answer(request, Asked(self.route_texts, places, is_shared=True)))
+            await self.answer(request, Task(self.route_texts, places, is_shared=True)))
 
     async def answer_osrm(self, request: web.Request) -> JsonAnswer:
         """Answers a request of OSRM's interface."""
         if request.method in READING:
             return self.json_of(
-                await self.answer(request, self.asked(request.raw_path, self.longest_address)))
+                await self.answer(request, self.task_of(request.raw_path, self.longest_address)))
         target = url.posted(request.raw_path, await self.body_of(request))
-        return self.json_of(await self.answer(request, self.asked(target, len(target))))
+        return self.json_of(await self.answer(request, self.task_of(target, len(target))))
 
-    def asked(self, target: str, longest: int) -> Asked:
+    def task_of(self, target: str, longest: int) -> Task:
         """What a request of OSRM's interface asks. Routes, and the nearest roads, are answered
         together with those that wait beside them. What the library in this process answers may be
         answered in the loop."""
@@ -262,12 +262,12 @@ class Service:
             legs = len(question.coordinates) - 1
             if question.own.alternatives:
                 # To look for alternatives takes longer than a moment on large networks.
-                return Asked(answers.routes, question)
-            return Asked(answers.routes, question, True, legs, is_quick, legs * question.own.work)
+                return Task(answers.routes, question)
+            return Task(answers.routes, question, True, legs, is_quick, legs * question.own.work)
         if question.service == "nearest" and question.own == 1:
-            return Asked(answers.nearest_ones, question, True, 1, is_quick)
+            return Task(answers.nearest_ones, question, True, 1, is_quick)
         if question.service == "table":
-            return Asked(answers.tables, question, False, 1, is_quick, question.own.size)
+            return Task(answers.tables, question, False, 1, is_quick, question.own.size)
         return alone(getattr(answers, question.service), question)
 
     def answers_for(self, profile: str, excluded: tuple[str, ...]) -> Answers:
@@ -413,14 +413,14 @@ class Service:
         spots, far = self.spots(
             network, [place for pair in pairs for place in pair], ENDS * len(pairs))
         starts, ends = spots[0::2], spots[1::2]
-        told = {
+        faults = {
             pair: [far[place] for place in (2 * pair, 2 * pair + 1) if place in far]
             for pair in range(len(pairs))}
-        near = [pair for pair, lines in told.items() if not lines]
+        near = [pair for pair, lines in faults.items() if not lines]
         found = dict(zip(near, network.trip_routes(starts[near], ends[near])))
         return [
             self.route_text(found[pair], starts, ends, pair) if pair in found
-            else Refused("; ".join(told[pair])) for pair in range(len(pairs))]
+            else Refused("; ".join(faults[pair])) for pair in range(len(pairs))]
 
     def route_text(self, trip: Trip, starts: Spots, ends: Spots, pair: int) -> str:
         return trip.to_text({
@@ -471,9 +471,9 @@ class Service:
         return {**network.isochrones(spot, limits), "unit": network.unit, "from": spot_of(spot, 0)}
 
 
-def alone(call: Callable[..., Any], *words: Any) -> Asked:
+def alone(call: Callable[..., Any], *words: Any) -> Task:
     """The question that a call answers, in a thread and without others."""
-    return Asked(lambda questions: [call(*words)], None)
+    return Task(lambda questions: [call(*words)], None)
 
 
 def spot_of(spots: Spots, place: int) -> dict[str, Any]:

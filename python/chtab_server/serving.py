@@ -69,7 +69,7 @@ class Serving:
         await runner.setup()
         http = cast(web.Server, runner.server)
         http.request_handler = service.front(around, http.request_handler)
-        self.loop.set_exception_handler(self.told_fault)
+        self.loop.set_exception_handler(self.report_fault)
         protocols = self.connections.watched(
             http, access_log=None, keepalive_timeout=limits.idle, max_line_size=service.longest,
             max_field_size=service.longest, auto_decompress=False)
@@ -123,7 +123,7 @@ class Serving:
     def succeeded(self) -> None:
         self.is_succeeded = True
 
-    def told_fault(self, loop: asyncio.AbstractEventLoop, context: dict[str, Any]) -> None:
+    def report_fault(self, loop: asyncio.AbstractEventLoop, context: dict[str, Any]) -> None:
         """Reports connections that the system refused once a minute, and any other error as
         usual."""
         if isinstance(context.get("exception"), OSError):
@@ -153,7 +153,7 @@ class Serving:
                 self.service.doubt.clear()
             except ChtabError as fault:
                 tries += 1
-                LOG.error("%s", self.service.networks.told(str(fault)))
+                LOG.error("%s", self.service.networks.translated(str(fault)))
                 if tries >= TRIES:
                     LOG.error("the engine could not be started %d times: the service ends", TRIES)
                     self.status = GIVEN_UP
@@ -176,7 +176,7 @@ class Serving:
                 await self.loop.run_in_executor(None, service.renew)
                 service.exchange()
             except (ChtabError, OSError) as fault:
-                LOG.error("%s: the speeds before stay", service.networks.told(str(fault)))
+                LOG.error("%s: the speeds before stay", service.networks.translated(str(fault)))
 
 
 async def serve(
@@ -190,28 +190,29 @@ class Child:
     """A process that serves: its number, its place among the others, and the pipe that it reports
     on once it serves."""
 
-    def __init__(self, number: int, place: int, told: int) -> None:
-        self.number, self.place, self.told, self.is_serving = number, place, told, False
+    def __init__(self, number: int, place: int, pipe: int) -> None:
+        self.number, self.place, self.pipe, self.is_serving = number, place, pipe, False
         self.ending = os.pidfd_open(number)
 
     def close(self) -> None:
         os.close(self.ending)
-        os.close(self.told)
+        os.close(self.pipe)
 
 
 class Family:
     """The processes of a service, and the one that supervises them.
 
     `make` makes the service of a process by its place, and is called in the forked process.
-    `metrics` has the counts of all processes. `told` replaces names of files by those that the user
-    knows.
+    `metrics` has the counts of all processes. `translated` replaces names of files by those that
+    the user knows.
     """
 
     def __init__(
         self, count: int, make: Callable[[int], Service], metrics: Metrics, port: Port,
-        told: Callable[[str], str], has_speeds: bool = False,
+        translated: Callable[[str], str], has_speeds: bool = False,
     ) -> None:
-        self.count, self.make, self.metrics, self.port, self.told = count, make, metrics, port, told
+        self.count, self.make, self.metrics, self.port = count, make, metrics, port
+        self.translated = translated
         self.has_speeds = has_speeds
         self.children: dict[int, Child] = {}
         self.is_ending, self.status = False, 0
@@ -229,17 +230,17 @@ class Family:
         signal.signal(SUCCEEDED, signal.SIG_IGN)
         if self.has_speeds:
             signal.signal(RENEWED, self.renew)
-        is_told = False
+        is_reported = False
         while self.children or not self.is_ending:
             self.begin_due()
             self.look()
             if (
-                not is_told and not self.is_ending
+                not is_reported and not self.is_ending
                 and sum(child.is_serving for child in self.children.values()) == self.count
             ):
-                is_told = True
+                is_reported = True
                 tell()
-            self.judge(is_told)
+            self.judge(is_reported)
         return self.status
 
     def judge(self, was_ready: bool) -> None:
@@ -268,15 +269,15 @@ class Family:
     def begin(self, place: int) -> None:
         """Forks a process, which never returns from here. Signals are blocked meanwhile, so that
         neither process misses one or handles the other's."""
-        told, tell = os.pipe()
+        reading, tell = os.pipe()
         signal.pthread_sigmask(signal.SIG_BLOCK, ENDING)
         number = os.fork()
         if number == 0:
-            os.close(told)
+            os.close(reading)
             os.close(self.parent_end)
             self.serve(place, tell)
         os.close(tell)
-        self.children[number] = Child(number, place, told)
+        self.children[number] = Child(number, place, reading)
         signal.pthread_sigmask(signal.SIG_UNBLOCK, ENDING)
         if self.is_ending:
             self.end()
@@ -295,7 +296,9 @@ class Family:
             status = asyncio.run(
                 serve(self.make(place), self.port, lambda: os.write(tell, b"."), self.life))
         except BaseException as fault:
-            print(f"chtab-page: {self.told(str(fault)) or type(fault).__name__}", file=sys.stderr)
+            print(
+                f"chtab-page: {self.translated(str(fault)) or type(fault).__name__}",
+                file=sys.stderr)
         finally:
             with contextlib.suppress(Exception):
                 sys.stdout.flush()
@@ -308,7 +311,7 @@ class Family:
         for child in self.children.values():
             poll.register(child.ending, select.POLLIN)
             if not child.is_serving:
-                poll.register(child.told, select.POLLIN)
+                poll.register(child.pipe, select.POLLIN)
         left = min(self.due.values(), default=None)
         ready = dict(
             poll.poll(None if left is None else max(1.0, 1000 * (left - time.monotonic()))))
@@ -316,8 +319,8 @@ class Family:
             for number in self.children:
                 os.kill(number, SUCCEEDED)
         for child in list(self.children.values()):
-            if child.told in ready and not child.is_serving:
-                child.is_serving = os.read(child.told, 1) == b"."
+            if child.pipe in ready and not child.is_serving:
+                child.is_serving = os.read(child.pipe, 1) == b"."
                 self.failures[child.place] *= not child.is_serving
             if child.ending in ready:
                 self.bury(child)

@@ -113,10 +113,10 @@ class Pieces:
         arcs = self.arcs[numpy.arange(len(lines)) - first + begins[lines]]
         metres = self.metres[arcs]
         exact = numpy.rint(metres * MILLISECONDS / given.speeds[lines])
-        whole = numpy.clip(exact, metres > 0, self.most).astype(numpy.int64)
+        rounded = numpy.clip(exact, metres > 0, self.most).astype(numpy.int64)
         weights = self.weights.copy()
         # Of several lines of one arc the last one counts.
-        weights[arcs] = whole
+        weights[arcs] = rounded
         return weights, int((counts > 0).sum())
 
     def place_of(self, nodes: Integers) -> Integers:

@@ -254,10 +254,10 @@ class Answers:
             for place, some in enumerate(which):
                 if place not in faults and (legs.weights[some] < 0).any():
                     faults[place] = Refusal("NoRoute", NO_ROUTE)
-        told = [place for place in range(len(questions)) if place not in faults]
-        own = [questions[place].own for place in told]
-        texts = dict(zip(told, self.route_texts(legs, [which[place] for place in told], own)))
-        for place in told:
+        valid = [place for place in range(len(questions)) if place not in faults]
+        own = [questions[place].own for place in valid]
+        texts = dict(zip(valid, self.route_texts(legs, [which[place] for place in valid], own)))
+        for place in valid:
             if questions[place].own.alternatives:
                 texts[place] += self.others(legs, which[place][0], questions[place].own)
         return [
@@ -281,8 +281,8 @@ class Answers:
         listed = zip(waypoints[::2], waypoints[1::2])
         return [
             Refusal("NoRoute", NO_ROUTE) if text is None
-            else answer_of("routes", text, "waypoints", objects(told, question.general))
-            for text, told, question in zip(texts, listed, questions)]
+            else answer_of("routes", text, "waypoints", objects(described, question.general))
+            for text, described, question in zip(texts, listed, questions)]
 
     def is_straight(self, own: options.Route) -> bool:
         """Whether a route goes straight on at its stops: by default those of cars do, as OSRM has
@@ -310,10 +310,10 @@ class Answers:
             raise Refusal("NoTrips", "no way leads over all coordinates")
         [text] = self.route_texts(legs, [list(range(len(legs)))], [own.route])
         ranks = numpy.argsort(order).tolist()
-        told = [
+        described = [
             f'{each}, "trips_index": 0, "waypoint_index": {rank}'
             for each, rank in zip(waypoints, ranks)]
-        return answer_of("trips", text, "waypoints", objects(told, general))
+        return answer_of("trips", text, "waypoints", objects(described, general))
 
     def match(self, question: Question) -> str:
         """The answer to a question for the likeliest roads of a track."""
@@ -381,10 +381,10 @@ class Answers:
         if own.fallback is not None:
             straight = straight_lines(question, starts, ends)
             best = numpy.where(is_there, best, straight / own.fallback * MILLISECONDS)
-            told = numpy.argwhere(~is_there).tolist()
+            missing = numpy.argwhere(~is_there).tolist()
             metres = None if metres is None else numpy.where(is_there, metres, straight)
             is_there = numpy.ones_like(is_there)
-            parts.append(f'"fallback_speed_cells": {json.dumps(told)}')
+            parts.append(f'"fallback_speed_cells": {json.dumps(missing)}')
         if own.has_durations:
             scaled = best if own.scale == 1 else best * own.scale
             parts.append(f'"durations": {rows_of(scaled, 3, is_there)}')
@@ -436,9 +436,9 @@ class Answers:
     def nearest_ones(self, questions: Sequence[Question]) -> list[str | Refusal]:
         """The answers to questions for the one nearest road, as texts or faults, found together."""
         spots, waypoints, faults = self.spots_of(questions)
-        told = self.with_nodes(spots, waypoints)
+        described = self.with_nodes(spots, waypoints)
         return [
-            faults.get(place) or nearest_answer([told[place]], question.general)
+            faults.get(place) or nearest_answer([described[place]], question.general)
             for place, question in enumerate(questions)]
 
     def with_nodes(self, spots: Spots, waypoints: Sequence[str]) -> list[str]:
@@ -495,15 +495,15 @@ def rows_of(numbers: Any, digits: int, is_there: Marks) -> str:
     """The rows of a table as a text of JSON: numbers of which so many digits lie behind the point,
     null where there is no way."""
     if numbers.max(initial=0, where=is_there) < cells.MOST:
-        is_whole = numbers.dtype.kind != "f"
+        are_integers = numbers.dtype.kind != "f"
         return cells.rows(
-            numbers if is_whole
+            numbers if are_integers
             else numpy.rint(numpy.where(is_there, numbers, 0)).astype(numpy.int64), digits,
             is_there)
-    told = (numbers / 10**digits).round(digits)
+    rounded = (numbers / 10**digits).round(digits)
     return json.dumps([
         [cell if is_way else None for cell, is_way in zip(*row)]
-        for row in zip(told.tolist(), is_there.tolist())])
+        for row in zip(rounded.tolist(), is_there.tolist())])
 
 
 # Where coordinates were taken to.

@@ -2,7 +2,7 @@
 numbers than all other answers.
 
 A number is put together from words of four letters each: three digits or fewer, or the digits
-behind the point. Letters that are not told are zeros, which are left out at the end.
+behind the point. Letters that are not written are zeros, which are left out at the end.
 """
 from __future__ import annotations
 
@@ -46,9 +46,9 @@ BETWEEN, BEHIND_ROW, NULL = words([", ", "], [", "null"])
 def rows(numbers: Integers, digits: int, is_there: Marks) -> str:
     """The text of a table of at least one cell: whole numbers (n, m) from 0 to `MOST`, of each of
     which the last digits, so many, lie behind the point; null where nothing is there."""
-    is_whole = bool(is_there.all())
+    is_complete = bool(is_there.all())
     rest, behind = numpy.divmod(
-        numbers if is_whole else numpy.where(is_there, numbers, 0), 10**digits)
+        numbers if is_complete else numpy.where(is_there, numbers, 0), 10**digits)
     columns, most, table = [endings(digits).take(behind)], int(rest.max()), LOWEST
     while most >= THOUSAND:
         above, part = numpy.divmod(rest, THOUSAND)
@@ -58,7 +58,7 @@ def rows(numbers: Integers, digits: int, is_there: Marks) -> str:
     letters = numpy.empty((*numbers.shape, len(columns) + 1), numpy.uint32)
     for place, column in enumerate(reversed(columns)):
         letters[..., place] = column
-    if not is_whole:
+    if not is_complete:
         letters[~is_there] = 0
         letters[~is_there, 0] = NULL
     letters[..., -1] = BETWEEN

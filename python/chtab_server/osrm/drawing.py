@@ -64,7 +64,7 @@ class Drawing:
         self.roads = Keeping(2 * len(lines) + 1, MOST_TEXTS, NOTHING)
         self.nodes = Keeping(nodes + 1, MOST_TEXTS, Places(numpy.empty(0, object)))
 
-    def whole_roads(self, ends: Integers) -> Stretch:
+    def full_roads(self, ends: Integers) -> Stretch:
         """The roads that are left by these ends; no stretch for the number behind the last one."""
         def made(some: Integers) -> Stretch:
             roads, is_back = ends[some] >> 1, ends[some] & 1 > 0
@@ -89,24 +89,25 @@ class Drawing:
     def stretch(self, places: Floats, counts: Integers) -> Stretch:
         """Stretches with so many places each, one after the other, rounded to millionths. Places
         that follow on themselves count once."""
-        ends, is_told = numpy.cumsum(counts), numpy.ones(len(places), bool)
-        is_told[1:] = (places[1:] != places[:-1]).any(axis=1)
-        is_told[ends - counts] = False
-        cuts = numpy.append(0, numpy.cumsum(is_told))[numpy.append(0, ends)]
-        has_places, after = cuts[1:] > cuts[:-1], numpy.flatnonzero(is_told)
+        ends, is_written = numpy.cumsum(counts), numpy.ones(len(places), bool)
+        is_written[1:] = (places[1:] != places[:-1]).any(axis=1)
+        is_written[ends - counts] = False
+        cuts = numpy.append(0, numpy.cumsum(is_written))[numpy.append(0, ends)]
+        has_places, after = cuts[1:] > cuts[:-1], numpy.flatnonzero(is_written)
         ways = numpy.zeros((2, len(counts)), numpy.int64)
         both = after[numpy.concatenate([cuts[:-1][has_places], cuts[1:][has_places] - 1])]
         ways[:, has_places] = bearings(places[both - 1], places[both]).reshape(2, -1)
-        return Stretch(column_of(self.behind(places, is_told, cuts)), has_places, *ways)
+        return Stretch(column_of(self.behind(places, is_written, cuts)), has_places, *ways)
 
-    def behind(self, places: Floats, is_told: Marks, cuts: Integers) -> list[str]:
+    def behind(self, places: Floats, is_written: Marks, cuts: Integers) -> list[str]:
         """The texts of those places that are written: line k has those from `cuts[k]` to before
         `cuts[k + 1]` of them, behind another place."""
         if self.form in DIGITS:
-            steps = polylines.whole(places, DIGITS[self.form])
+            steps = polylines.integers(places, DIGITS[self.form])
             steps[1:] -= steps[:-1].copy()
-            return [text.replace("\\", "\\\\") for text in polylines.letters(steps[is_told], cuts)]
-        texts = [f", [{x}, {y}]" for x, y in places[is_told].tolist()]
+            return [
+                text.replace("\\", "\\\\") for text in polylines.letters(steps[is_written], cuts)]
+        texts = [f", [{x}, {y}]" for x, y in places[is_written].tolist()]
         return ["".join(texts[first:last]) for first, last in zip(cuts.tolist(), cuts[1:].tolist())]
 
     def drawn(self, legs: Legs, which: Integers) -> Drawn:
@@ -118,7 +119,7 @@ class Drawing:
             pieces.roads[is_part], pieces.starts[is_part], pieces.ends[is_part])
         places = parts.places.round(6)
         is_none = is_part | (pieces.roads == NONE)
-        found = self.whole_roads(
+        found = self.full_roads(
             numpy.where(
                 is_none, 2 * len(self.lines), 2 * pieces.roads + (pieces.starts > pieces.ends)))
         for column, own in zip(found, self.stretch(places, parts.counts)):
@@ -135,18 +136,18 @@ class Drawing:
         legs = numpy.append(0, numpy.cumsum(counts))
         cuts, texts = drawn.pieces.firsts[legs].tolist(), drawn.stretches.texts.tolist()
         begins = [drawn.begin_texts[leg] for leg in legs[:-1].tolist()]
-        return self.wholes(
+        return self.full_lines(
             begins, ["".join(texts[first:last]) for first, last in zip(cuts, cuts[1:])])
 
     def places(self, places: Floats) -> list[str]:
         """The texts of places by themselves."""
         if self.form in DIGITS:
             found = polylines.letters(
-                polylines.whole(places, DIGITS[self.form]), numpy.arange(len(places) + 1))
+                polylines.integers(places, DIGITS[self.form]), numpy.arange(len(places) + 1))
             return [text.replace("\\", "\\\\") for text in found]
         return [f"[{x}, {y}]" for x, y in places.tolist()]
 
-    def wholes(self, begins: Sequence[str], behind: Sequence[str]) -> list[str]:
+    def full_lines(self, begins: Sequence[str], behind: Sequence[str]) -> list[str]:
         """The texts of lines by their first places and what lies behind these."""
         if self.form in DIGITS:
             return [f'"{begin}{more or polylines.SAME}"' for begin, more in zip(begins, behind)]

@@ -198,7 +198,7 @@ class Reader:
             raise Refusal("InvalidQuery", f"{name}: a number from 0 on, as 1.5")
         return value
 
-    def whole(self, name: str, text: str) -> int:
+    def integer(self, name: str, text: str) -> int:
         if not INDEX.fullmatch(text):
             raise Refusal("InvalidQuery", f"{name}: a whole number from 0 on")
         return int(text)
@@ -208,7 +208,7 @@ class Reader:
         text = self.take(name, "all")
         if text == "all":
             return list(range(self.count))
-        found = [self.whole(name, part) for part in text.split(";", self.count)]
+        found = [self.integer(name, part) for part in text.split(";", self.count)]
         if max(found) >= self.count:
             raise Refusal("InvalidOptions", f"{name}: an index is from 0 to {self.count - 1:,}")
         if len(found) > self.count:
@@ -274,12 +274,12 @@ def bearing_in(text: str) -> tuple[int, int] | None:
 def route(reader: Reader) -> Route:
     if reader.count < 2:
         raise Refusal("InvalidOptions", "a route has at least two coordinates")
-    asked = alternatives(reader)
+    count = alternatives(reader)
     straight = reader.choice("continue_straight", "default", "true", "false")
     return without_steps(
-        told_route(reader)._replace(
+        route_options(reader)._replace(
             is_straight={"true": True, "false": False}.get(straight), waypoints=waypoints(reader),
-            alternatives=asked))
+            alternatives=count))
 
 
 def without_steps(found: Route) -> Route:
@@ -294,9 +294,9 @@ def alternatives(reader: Reader) -> int:
     text = reader.take("alternatives", "false")
     if not ALTERNATIVES.fullmatch(text):
         raise Refusal("InvalidQuery", "alternatives: true, false or a number")
-    asked = {"true": 1, "false": 0}.get(text)
+    known = {"true": 1, "false": 0}.get(text)
     most = MOST_ALTERNATIVES if reader.count == 2 else 0
-    return min(int(text) if asked is None else asked, most)
+    return min(int(text) if known is None else known, most)
 
 
 def waypoints(reader: Reader) -> tuple[int, ...] | None:
@@ -310,7 +310,7 @@ def waypoints(reader: Reader) -> tuple[int, ...] | None:
     return found
 
 
-def told_route(reader: Reader) -> Route:
+def route_options(reader: Reader) -> Route:
     """The options of routes in all services."""
     geometries = reader.choice("geometries", *FORMS)
     overview = reader.choice("overview", "simplified", "full", "false")
@@ -336,7 +336,7 @@ def trip(reader: Reader) -> Trip:
     is_round = reader.boolean("roundtrip", True)
     source, destination = (
         reader.choice("source", "any", "first"), reader.choice("destination", "any", "last"))
-    return Trip(told_route(reader), is_round, source == "first", destination == "last")
+    return Trip(route_options(reader), is_round, source == "first", destination == "last")
 
 
 def match(reader: Reader) -> Match:
@@ -344,7 +344,7 @@ def match(reader: Reader) -> Match:
     if reader.count < 2:
         raise Refusal("InvalidOptions", "a track has at least two coordinates")
     gaps, is_tidied = reader.choice("gaps", "split", "ignore"), reader.boolean("tidy", False)
-    found = told_route(reader)._replace(waypoints=waypoints(reader))
+    found = route_options(reader)._replace(waypoints=waypoints(reader))
     return Match(without_steps(found), timestamps(reader), gaps == "split", is_tidied)
 
 
@@ -388,7 +388,7 @@ def nearest(reader: Reader) -> int:
     """The number of roads to find."""
     if reader.count != 1:
         raise Refusal("InvalidOptions", "nearest has one coordinate")
-    number = reader.whole("number", reader.take("number", "1"))
+    number = reader.integer("number", reader.take("number", "1"))
     if not number:
         raise Refusal("InvalidOptions", "number: at least 1")
     return number

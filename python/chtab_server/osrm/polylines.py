@@ -45,14 +45,14 @@ def encoded(places: Floats, precision: int) -> str:
 def encoded_each(places: Floats, firsts: Sequence[int] | Integers, precision: int) -> list[str]:
     """The texts of several lines of at least one place each, which stand one after the other and
     begin at `firsts`."""
-    numbers = whole(places, precision)
+    numbers = integers(places, precision)
     steps = numbers.copy()
     steps[1:] -= numbers[:-1]
     steps[firsts] = numbers[firsts]
     return letters(steps, numpy.append(firsts, len(places)))
 
 
-def whole(places: Floats, precision: int) -> Integers:
+def integers(places: Floats, precision: int) -> Integers:
     """Latitudes and longitudes of places (n, 2) as whole numbers with so many digits behind the
     point: int32 (n, 2)."""
     return numpy.floor(places[:, ::-1] * 10.0**precision + 0.5).astype(numpy.int32)

@@ -35,7 +35,7 @@ ROTARIES = {ENTER: "rotary", EXIT: "exit rotary"}
 MOST_RINGS = 1 << 14
 
 
-class Told(NamedTuple):
+class LegSteps(NamedTuple):
     """The steps of a leg, and the names of its two longest streets, as texts of JSON."""
 
     steps: str
@@ -90,7 +90,7 @@ class Steps:
         self.ring_street = functools.lru_cache(MOST_RINGS)(self.ring_street_anew)
         self.ring_maneuver = functools.lru_cache(MOST_RINGS)(ring_maneuver_anew)
 
-    def of(self, legs: Legs, which: Integers, lines: Lines) -> list[Told]:
+    def of(self, legs: Legs, which: Integers, lines: Lines) -> list[LegSteps]:
         """The steps of some legs, each of which is a way and lies along `lines`."""
         if not len(which):
             return []
@@ -127,7 +127,7 @@ class Steps:
             [self.signs[street] for street in streets.tolist()], measured.metres.tolist(),
             order.begins.tolist())
         return [
-            Told(text, summary(signs[begin:last], metres[begin:last]))
+            LegSteps(text, summary(signs[begin:last], metres[begin:last]))
             for text, begin, last in zip(texts, begins, order.lasts.tolist())]
 
     def ends_of(self, legs: Legs, which: Integers, pieces: Pieces) -> tuple[Integers, Integers]:
@@ -194,10 +194,10 @@ def summary(names: Sequence[str], metres: Sequence[float]) -> str:
 
 def called(street: Street) -> str:
     """What a step on a street is called: its name, and what else signs have of it."""
-    told = {
+    members = {
         "name": street.name,
         **{key: getattr(street, key) for key in ("ref", "destinations") if getattr(street, key)}}
-    return json.dumps(told)[1:-1]
+    return json.dumps(members)[1:-1]
 
 
 class Measured(NamedTuple):

@@ -12,7 +12,7 @@ from chtab._engine.walks import ranges
 from chtab._roads.legs import Traces
 from chtab_server.osrm import cells, polylines
 from chtab_server.osrm.drawing import Drawing, Drawn
-from chtab_server.osrm.steps import Lines, Steps, Told
+from chtab_server.osrm.steps import Lines, Steps, LegSteps
 
 if TYPE_CHECKING:
     from chtab._roads.legs import Legs
@@ -54,7 +54,7 @@ class OfLegs(NamedTuple):
 
     weights: list[int]
     metres: list[float]
-    steps: Mapping[int, Told]
+    steps: Mapping[int, LegSteps]
     traces: Traces
     places: Mapping[int, int]
 
@@ -67,12 +67,12 @@ def routes(
     wanted = [leg for part, option in zip(parts, options) if option.has_traces for leg in part]
     traces, places = legs.traces(wanted), {leg: place for place, leg in enumerate(wanted)}
     drafts = Drafts(voice.drawings, legs)
-    told = OfLegs(
+    of_legs = OfLegs(
         legs.weights.tolist(), legs.metres.tolist(), steps_of(voice, drafts, parts, options),
         traces, places)
     lines = geometries(drafts, parts, options, traces, places)
     return [
-        route(voice, legs, part, option, told, lines.get(number))
+        route(voice, legs, part, option, of_legs, lines.get(number))
         for number, (part, option) in enumerate(zip(parts, options))]
 
 
@@ -93,10 +93,10 @@ class Drafts:
 
 def steps_of(
     voice: Voice, drafts: Drafts, parts: Sequence[list[int]], options: Sequence[Route],
-) -> dict[int, Told]:
+) -> dict[int, LegSteps]:
     """The steps of legs whose routes are asked for with steps, by the numbers of the legs."""
     stepping: dict[str, list[int]] = {}
-    found: dict[int, Told] = {}
+    found: dict[int, LegSteps] = {}
     for part, option in zip(parts, options):
         if option.has_steps:
             stepping.setdefault(option.geometries, []).extend(part)
@@ -107,13 +107,13 @@ def steps_of(
 
 
 def route(
-    voice: Voice, legs: Legs, which: list[int], options: Route, told: OfLegs, line: str | None,
+    voice: Voice, legs: Legs, which: list[int], options: Route, of_legs: OfLegs, line: str | None,
 ) -> str:
     """The text of the route over some legs, one after the other."""
-    duration = sum(told.weights[leg] for leg in which) / MILLISECONDS
-    metres = round(sum(told.metres[leg] for leg in which), 1)
+    duration = sum(of_legs.weights[leg] for leg in which) / MILLISECONDS
+    metres = round(sum(of_legs.metres[leg] for leg in which), 1)
     texts = ", ".join([
-        leg_text(voice, legs, part, options, told)
+        leg_text(voice, legs, part, options, of_legs)
         for part in between_waypoints(which, options.waypoints)])
     drawn = "" if line is None else f' "geometry": {line},'
     return (
@@ -128,16 +128,16 @@ def between_waypoints(which: list[int], waypoints: tuple[int, ...] | None) -> li
     return [which[first:last] for first, last in itertools.pairwise(waypoints)]
 
 
-def leg_text(voice: Voice, legs: Legs, which: list[int], options: Route, told: OfLegs) -> str:
-    """The text of some legs, told as one. Only a leg by itself has steps."""
+def leg_text(voice: Voice, legs: Legs, which: list[int], options: Route, of_legs: OfLegs) -> str:
+    """The text of some legs, formatted as one. Only a leg by itself has steps."""
     weight, metres = (
-        sum(told.weights[leg] for leg in which) / MILLISECONDS,
-        sum(told.metres[leg] for leg in which))
-    steps, more = told.steps.get(which[0]), ""
+        sum(of_legs.weights[leg] for leg in which) / MILLISECONDS,
+        sum(of_legs.metres[leg] for leg in which))
+    steps, more = of_legs.steps.get(which[0]), ""
     if options.annotations:
         parts = [
             annotation(
-                trace_of(told.traces, told.places[leg]), options.annotations, voice.numbers)
+                trace_of(of_legs.traces, of_legs.places[leg]), options.annotations, voice.numbers)
             for leg in which]
         more = (
             f' "annotation": {annotation_text(parts[0] if len(parts) == 1 else together(parts))},')
