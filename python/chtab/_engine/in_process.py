@@ -146,8 +146,7 @@ class InProcess:
             return contents_of(path)
 
     def opened_like(self, graph: bytes, fresh: int) -> library.Handle:
-        """A handle in the network of another graph, built in the order of this one's, of which the
-        last `fresh` per cent of the nodes are ordered afresh. This one goes on answering."""
+        """A handle in the network of another graph, built in the order of this one's."""
         giver, handle = self.first_handle().share(), library.Handle(self.calls)
         # The giver is closed when the call ends, also where the wait for it is broken off.
         interruptible(LONG, handle.open_like, graph, giver, fresh)
@@ -285,8 +284,7 @@ class InProcess:
         self, rows: int, columns: int, call: Callable[[library.Handle, tuple[slice, slice]], None],
         name: str, progress: Asked = None,
     ) -> None:
-        """Calls for blocks of a table, which are slices of rows and of columns, until all cells are
-        done."""
+        """Calls for blocks of a table, slices of rows and of columns, until all are done."""
         side = SIDE if self.setting.timeout is None else SHORT
         # Several threads have a part each.
         shares = max(1, min(self.setting.workers, rows * columns // WORTH))
@@ -328,8 +326,7 @@ class InProcess:
     def sums(
         self, pairs: Integers, values: NDArray[numpy.uint64],
     ) -> tuple[Integers, NDArray[numpy.uint64]]:
-        """The weights of the routes of pairs, -1 for no walk, and the sums of the values of their
-        arcs, 0 for no walk. A sum of 2^64 is refused."""
+        """The weights of routes, -1 for no walk, and the sums of their values; 2^64 is refused."""
         sources, targets = self.columns(pairs)
         weights, sums = (
             numpy.empty(len(sources), numpy.int64), numpy.empty(len(sources), numpy.uint64))
@@ -343,8 +340,7 @@ class InProcess:
     def flows(
         self, pairs: Integers, demands: NDArray[numpy.uint64], lines: int, progress: Asked = None,
     ) -> tuple[int, NDArray[numpy.uint64]]:
-        """How many pairs have no walk, and for each of the `lines` of the graph the sum of the
-        demands, below 2^63 in all, of the pairs whose routes take it."""
+        """How many pairs have no walk, and the flow on each of the `lines` of the graph."""
         (sources, targets), total = self.columns(pairs), Flows(lines)
 
         def ask(handle: library.Handle, part: slice) -> None:

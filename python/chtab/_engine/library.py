@@ -142,8 +142,7 @@ def is_up_to_date(made: str, checkout: str) -> bool:
 
 @functools.cache
 def loaded(path: str) -> ctypes.CDLL:
-    """The calls of the library at a path. Raises a `ChtabError` if it can't be loaded, or has
-    another version."""
+    """The calls of the library at a path; a `ChtabError` if it is none of this version."""
     try:
         with forks.STEADY:
             calls = ctypes.CDLL(path)
@@ -188,8 +187,7 @@ def written(array: NDArray[Any], kind: DTypeLike) -> tuple[int, int]:
 
 
 def nodes_of(numbers: ArrayLike, count: int) -> Nodes:
-    """The nodes of numbers from 1 to `count`, as the library counts them from 0 on: uint32,
-    contiguous. Any other number is refused."""
+    """The nodes of numbers from 1 to `count` as the library has them, uint32 from 0 on."""
     numbers = numpy.asarray(numbers)
     if numbers.dtype != numpy.int64:
         if numbers.size and numbers.dtype.kind not in "iu":
@@ -217,8 +215,7 @@ def close(call: Callable[[Any], int], block: Block | TopologyBlock, owner: int) 
 
 
 class Opened:
-    """What the library keeps in this process, with one call at a time, for which threads wait. It
-    is closed by `close`, and when it is no longer used."""
+    """What the library keeps in this process until it is closed, with one call at a time."""
 
     def __init__(
         self, calls: ctypes.CDLL, block: Block | TopologyBlock, closing: Callable[[Any], int],
@@ -382,8 +379,7 @@ class Handle(Opened):
     def route_sums(
         self, sources: Nodes, targets: Nodes, values: Unsigned,
     ) -> tuple[Integers, Unsigned]:
-        """The weights of the routes of pairs, -1 for no walk, and the sums of the values of their
-        arcs, 0 for no walk; `values` has one for each arc. A sum of 2^64 is refused."""
+        """The weights of the routes of pairs, -1 for no walk, and the sums of their values."""
         count, weights = ctypes.c_uint64(), numpy.empty(len(sources), numpy.int64)
         sums = numpy.empty(len(sources), NUMBER)
         see_that_done(self.ask(
@@ -410,8 +406,7 @@ class Handle(Opened):
     def keep_places(
         self, places: Nodes, limit: int = NO_LIMIT, count: int = ALL, is_from: bool = False,
     ) -> None:
-        """Searches from places, and keeps the result for rows of at most `count` places within the
-        limit, by the distances to the places or from them."""
+        """Searches from places, and keeps the result for rows of `near_rows` and `near_sums`."""
         if not (0 <= limit <= NO_LIMIT and 0 <= count <= ALL):
             raise ValueError("a limit is a number of 64 bits, and a count one of 32")
         call, own = self.calls.chtab_near_places, column(places, NODE)
@@ -435,8 +430,7 @@ class Handle(Opened):
         return ends, weights[:end], places[:end].astype(numpy.int64)
 
     def near_sums(self, sources: Nodes, values: Unsigned, limits: Unsigned) -> Unsigned:
-        """For each source and limit the sum of the values of the kept places in its row within the
-        limit (n, m). A sum of 2^64 is refused."""
+        """For each source and limit the sum of the values in its row (n, m), below 2^64."""
         count, sums = ctypes.c_uint64(), numpy.empty(len(sources) * len(limits), NUMBER)
         given = column(sources, NODE), column(values, NUMBER), column(limits, NUMBER)
         call = self.calls.chtab_near_sums

@@ -68,8 +68,7 @@ def see_that_free(folder: str) -> None:
 def write(
     arcs: Arcs, folder: str, program: str, calls: ctypes.CDLL, running: Running,
 ) -> Handle | None:
-    """Writes the files of arcs into a folder, and builds their hierarchy. Returns a handle of the
-    network if it was built in this process."""
+    """Writes the files of arcs, and builds their hierarchy; a handle if this process did."""
     graph, saved, coordinates, bends, labels = (
         os.path.join(folder, name) for name in (GRAPH, SAVED, COORDINATES, BENDS, LABELS))
     comments = [f"Weights are {arcs.base}."] * bool(arcs.base)

@@ -33,12 +33,7 @@ Item = TypeVar("Item")
 
 
 class Progress:
-    """Counts what is done of `total` things, None if their number isn't known, and reports it every
-    `seconds` if `is_shown`. A `call` gets the count and the total at each step instead.
-
-        with Progress("blocks", 49, "blocks") as progress:
-            progress.step()
-    """
+    """Counts what is done of `total` things, or of an unknown number, and reports it."""
 
     def __init__(
         self, name: str, total: int | None, things: str, seconds: float | None = None,

@@ -15,8 +15,7 @@ NO_WALK = -1
 
 
 class Paths(NamedTuple):
-    """The routes of pairs of nodes: their weights, -1 where there is no walk, how many arcs each
-    has, and the arcs of all of them by their places in the graph, from 0 on."""
+    """The routes of pairs: weights, -1 for no walk, numbers of arcs, and arcs from 0 on."""
 
     weights: Integers
     counts: Integers

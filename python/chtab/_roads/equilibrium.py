@@ -255,8 +255,7 @@ class Search:
         self.towards = [] if self.length >= WHOLE_STEP else [point, *self.towards[:1]]
 
     def conjugate(self, fastest: Floats) -> Floats:
-        """The point for the next step, in a direction conjugate to those of the last two if it can
-        be."""
+        """The point for the next step, conjugate to the last two steps where it can be."""
         if not self.towards:
             return fastest
         slopes, ahead = self.curve.slopes(self.flows), fastest - self.flows

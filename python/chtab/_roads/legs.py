@@ -242,8 +242,7 @@ def are_few(starts: Spots, ends: Spots) -> bool:
 
 
 def few_totals(trips: Trips, starts: Spots, ends: Spots, within: int | None) -> Integers:
-    """The weights of all ways by nodes from each spot to each (w, k, l), at least `NOWHERE` where
-    there is none. A way's number is its place."""
+    """The weights of all ways by nodes (w, k, l), at least `NOWHERE` where there is none."""
     outs, ins = starts.out_nodes.T, ends.in_nodes.T
     sources, targets = (numpy.maximum(nodes, 1).reshape(-1) for nodes in (outs, ins))
     found = trips.engine.table(sources, targets, within)
@@ -277,8 +276,7 @@ def node_weights(trips: Trips, outs: Integers, ins: Integers, within: int | None
 def least_of(
     totals: Integers, width: int, outs: int, numbers: Integers,
 ) -> tuple[Integers, Integers]:
-    """The least total of each cell, and its way's number: totals are by starts and their `outs`,
-    and by all `width` ends and their ways."""
+    """The least total of each cell, by starts and `outs`, and by ends and their ways."""
     height = len(totals) // outs if outs else 0
     if not (height and width and len(numbers)):
         return numpy.full((1, 1), FAR), numpy.zeros((1, 1), numpy.int64)

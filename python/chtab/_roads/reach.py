@@ -34,8 +34,7 @@ FEW = 8
 
 
 def samples(network_roads: Roads, times: Integers, spacing: float) -> tuple[Floats, Floats]:
-    """Points of roads in the plane, at most `spacing` apart, and the weights at which they are
-    reached, by the `times` of nodes, -1 if they aren't."""
+    """Points of roads in the plane, at most `spacing` apart, and the weights up to there."""
     arcs, ends, parts = network_roads.segments()
     firsts = times[network_roads.tails[arcs] - 1]
     kept = (firsts >= 0) & ~numpy.isnan(ends).any(axis=1)

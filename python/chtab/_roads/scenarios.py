@@ -29,8 +29,7 @@ NO_FRACTION = ", as the weights of this network are"
 def arcs_of(
     layers: Layers, measure: measures.Measure, weights: Any, closed: Any, added: Any
 ) -> arc_columns.Arcs:
-    """The arcs of a network with other weights, and without closed or with added arcs;
-    `Network.changed` explains each."""
+    """The arcs of a network that is changed, as `Network.changed` explains it."""
     weighing = weighing_of(layers, measure, weights is not None or added is not None)
     given = Given.of(layers)
     changed, rounding = given.reweighted(weights, weighing)
@@ -130,8 +129,7 @@ class Given(NamedTuple):
     # What is closed.
 
     def marked(self, closed: Any) -> Marks:
-        """Marks the arcs that are closed, by a list of names or by a column that says so of each
-        row."""
+        """Marks the arcs that a list of names or a column of rows closes."""
         is_closed = numpy.zeros(len(self.rows), bool)
         if closed is None:
             return is_closed
@@ -208,8 +206,7 @@ class Given(NamedTuple):
     # What is added.
 
     def added(self, given: Any, weighing: Weighing) -> New:
-        """The arcs that are added to these. Where turns are restricted, all that arrive may go on
-        by an added arc."""
+        """The arcs that are added, by which all that arrive at their sources may go on."""
         if given is None:
             return New(NOTHING, NOTHING, NOTHING, NOTHING, 0, None, [], 0.0)
         sources, targets, weights, lines = columns_of_added(given)
@@ -299,8 +296,7 @@ class Given(NamedTuple):
 
 
 def order_of(layers: Layers, order: Any) -> bytes | str | None:
-    """What names an order in which weights are customized: the path of a file, or the lines of
-    nodes in order. None for the order that is found."""
+    """What names an order of the nodes: the path of a file, or its lines; or None."""
     if order is None:
         return None
     if isinstance(order, str | os.PathLike):
