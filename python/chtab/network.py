@@ -651,9 +651,7 @@ class Network:
         return self._customizing
 
     @classmethod
-    def _made(
-        cls, arcs: Arcs, folder: str | os.PathLike | None, running: opening.Running,
-    ) -> Self:
+    def _made(cls, arcs: Arcs, folder: str | os.PathLike | None, running: opening.Running) -> Self:
         """Writes the files of these arcs, and opens their network."""
         # Whoever changes a network was warned when it was made.
         if arcs.scale is not None and arcs.unit is None and arcs.beside is None:
@@ -1380,9 +1378,7 @@ class Network:
         return TripRoutes(trip._replace(weight=measure.one(trip.weight)) for trip in found)
 
     @timed
-    def reach(
-        self, spot: Spots, within: Limit = None, *, missing: float | None = None,
-    ) -> NDArray:
+    def reach(self, spot: Spots, within: Limit = None, *, missing: float | None = None) -> NDArray:
         """Returns the weights at which nodes are reached from a spot.
 
         Parameters
@@ -1444,8 +1440,7 @@ class Network:
         areas = self._trips.isochrones(spot, [limit for limit, _ in asked])
         features = [
             geojson.feature(area, {"limit": limit}, "MultiPolygon")
-            for (_, limit), area in zip(asked, areas)
-        ]
+            for (_, limit), area in zip(asked, areas)]
         return Isochrones(geojson.collection(features))
 
     # Properties of the network. Those that need a file read it when they are first used.

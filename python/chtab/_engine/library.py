@@ -269,8 +269,7 @@ class Handle(Opened):
         from 0 on, and weighs `weights[k]`."""
         given, fault = saved_text(saved), Fault()
         columns = *ends_of(nodes, tails, heads, len(weights)), column(weights, NUMBER)
-        status = self.ask(
-            self.calls.chtab_open_arrays, nodes, *columns, given, ctypes.byref(fault))
+        status = self.ask(self.calls.chtab_open_arrays, nodes, *columns, given, ctypes.byref(fault))
         see_that_opened(status, fault, saved)
 
     def open_like(self, graph: bytes, other: Handle, fresh: int) -> None:
@@ -293,8 +292,7 @@ class Handle(Opened):
         """Opens the network of the arcs of a topology, where arc k weighs `weights[k]`."""
         fault, given = Fault(), column(weights, NUMBER)
         with topology.lock:
-            status = self.ask(
-                self.calls.chtab_customized, topology.at, given, ctypes.byref(fault))
+            status = self.ask(self.calls.chtab_customized, topology.at, given, ctypes.byref(fault))
         if status:
             raise fault_of(status, fault)
 

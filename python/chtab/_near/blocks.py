@@ -14,9 +14,7 @@ import numpy
 from chtab._engine import cluster, deadlines
 from chtab._engine.progress import progress_of
 from chtab._near import rows as near_rows
-from chtab._near.question import (
-    FEW, SHARE, SWEPT, NearQuestion, NearRows, Question, SpotQuestion,
-)
+from chtab._near.question import FEW, SHARE, SWEPT, NearQuestion, NearRows, Question, SpotQuestion
 
 if TYPE_CHECKING:
     from numpy.typing import NDArray

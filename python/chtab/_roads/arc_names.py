@@ -107,8 +107,7 @@ class ArcNames:
         finders: dict[str, Callable[..., Found]] = {
             ROW: self.of_rows, SPOTS: self.of_spots, WAYS: self.of_ways, STREETS: self.of_streets,
             BOTH: self.of_both, NODE: self.of_nodes, PAIR: self.of_tuples, EDGE: self.of_tuples,
-            OTHER: self.of_others,
-        }
+            OTHER: self.of_others}
         calls = (
             functools.partial(
                 finders[kind], name, numpy.array(own), [names[place] for place in own])

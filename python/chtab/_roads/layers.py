@@ -64,11 +64,8 @@ class Layers:
         self.path, self.asked = path, asked
         self.paths = {
             "coordinates": coordinates or beside(base + ".co"),
-            "bends": bends or beside(base + ".bends"),
-            "labelling": labelling,
-            "streets": beside(base + ".names"),
-            "ways": beside(base + ".ways"),
-        }
+            "bends": bends or beside(base + ".bends"), "labelling": labelling,
+            "streets": beside(base + ".names"), "ways": beside(base + ".ways")}
         self.kept: dict[str, Any] = {}
         self.stamps = Stamps(path, *self.paths.values())
         self.leave_parent()

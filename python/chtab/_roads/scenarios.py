@@ -42,10 +42,7 @@ def weighing_of(layers: Layers, measure: measures.Measure, has_weights: bool) ->
     made = layers.labelling
     own = None if made is None else made.scale
     if (
-        has_weights
-        and made is not None
-        and made.unit is None
-        and own not in (None, 1)
+        has_weights and made is not None and made.unit is None and own not in (None, 1)
         and layers.asked == measures.Asked()
     ):
         text = (
@@ -137,8 +134,7 @@ class Given(NamedTuple):
             what = "one way or street" if isinstance(closed, str) else "one row"
             raise DataFault(f"closed is a list: [{closed!r}] is {what}", "closed")
         if (
-            isinstance(closed, tuple)
-            and len(closed) in (1, 2, 3)
+            isinstance(closed, tuple) and len(closed) in (1, 2, 3)
             and not any(isinstance(part, tuple | list | Spots) for part in closed)
         ):
             raise DataFault(
@@ -316,9 +312,7 @@ def mask_in(closed: Any) -> NDArray[Any] | None:
         return None
     column = numpy.asarray(closed)
     if (
-        column.dtype == object
-        and column.ndim == 1
-        and len(column)
+        column.dtype == object and column.ndim == 1 and len(column)
         and {*map(type, column)} <= {bool, numpy.bool_}
     ):
         column = column.astype(bool)
