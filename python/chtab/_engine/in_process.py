@@ -163,17 +163,14 @@ class InProcess:
         """The handle of the current thread."""
         self.see_that_open()
         if self.of_thread.handle is None:
-            self.of_thread.handle = self.handle_of_new_thread()
+            with self.lock:
+                first = self.first_handle()
+                # A new thread has the first handle if no living one has it, and else a further one.
+                is_free = self.asker is None or not self.asker.is_alive()
+                if is_free:
+                    self.asker = threading.current_thread()
+            self.of_thread.handle = first if is_free else self.another(first)
         return self.of_thread.handle
-
-    def handle_of_new_thread(self) -> library.Handle:
-        """The first handle, if no living thread has it, and otherwise a further one."""
-        with self.lock:
-            first = self.first_handle()
-            if self.asker is None or not self.asker.is_alive():
-                self.asker = threading.current_thread()
-                return first
-        return self.another(first)
 
     def another(self, first: library.Handle) -> library.Handle:
         """Makes a further handle, without a lock while it waits for a call of the first one."""
