@@ -18,9 +18,8 @@ if TYPE_CHECKING:
 
 
 class Customizing:
-    """A topology of the arcs from `tails` to `heads`, nodes from 1 on, which each process opens
-    once. `order` are the lines of an order, or the path of their file; None: the library finds a
-    nested dissection order."""
+    """A topology of the arcs from `tails` to `heads`, nodes from 1 on, opened once by each process.
+    `order`: its lines, or the path of their file; None: a nested dissection order."""
 
     def __init__(
         self, calls: ctypes.CDLL, nodes: int, tails: Integers, heads: Integers,

@@ -50,7 +50,6 @@ DENSE = (
 # Up to this many pairs are asked for without arrays.
 FEW = 16
 
-
 # Nodes as the library counts them, from 0 on; and unsigned numbers.
 Nodes: TypeAlias = "NDArray[numpy.uint32]"
 Unsigned: TypeAlias = "NDArray[numpy.uint64]"
@@ -116,8 +115,7 @@ CALLS = {
 
 
 def beside(program: str) -> str | None:
-    """The library beside a program, of a wheel, of `packaging/library` unless sources are newer, or
-    where `./install` puts it; None if there is none."""
+    """The library beside a program, or where `packaging/library` or `./install` puts it."""
     folder = os.path.dirname(os.path.realpath(program))
     places = [folder] if os.path.basename(folder) != "chtab" else [folder, os.path.dirname(folder)]
     found = [
@@ -265,16 +263,14 @@ class Handle(Opened):
     def open_arrays(
         self, nodes: int, tails: Nodes, heads: Nodes, weights: Unsigned, saved: bytes | None = None,
     ) -> None:
-        """Does the same for a graph in columns: arc k leads from `tails[k]` to `heads[k]`, nodes
-        from 0 on, and weighs `weights[k]`."""
+        """Does the same for arcs from `tails` to `heads`, nodes from 0 on, that weigh `weights`."""
         given, fault = saved_text(saved), Fault()
         columns = *ends_of(nodes, tails, heads, len(weights)), column(weights, NUMBER)
         status = self.ask(self.calls.chtab_open_arrays, nodes, *columns, given, ctypes.byref(fault))
         see_that_opened(status, fault, saved)
 
     def open_like(self, graph: bytes, other: Handle, fresh: int) -> None:
-        """Opens the network of a graph of as many nodes as that of another handle, in whose order
-        its hierarchy is built, but for the last `fresh` per cent of the nodes."""
+        """Opens the network of a graph in the order of another handle's, `fresh` per cent anew."""
         given, fault = text_of(graph), Fault()
         if other is self or not 0 <= fresh < 2**32:
             raise ValueError(
@@ -329,8 +325,7 @@ class Handle(Opened):
         return out
 
     def few_distances(self, sources: Sequence[int], targets: Sequence[int]) -> list[int] | None:
-        """The same for at most `FEW` pairs, in lists, in a tenth of the time; None to the handler
-        of a signal in the middle of such a question."""
+        """The same for at most `FEW` pairs in lists; None within such a question."""
         count = len(sources)
         with self.lock:
             if self.is_asked:
@@ -415,8 +410,7 @@ class Handle(Opened):
         see_that_done(self.ask(self.calls.chtab_near_sweep))
 
     def near_rows(self, sources: Nodes, pairs: int) -> tuple[Integers, Integers, Integers]:
-        """The rows to the kept places of as many of the first sources as fit into so many pairs:
-        the end of each row, the weights and the places."""
+        """The rows of the first sources that fit into so many pairs: ends, weights, places."""
         rows, ends = ctypes.c_uint64(), numpy.empty(len(sources), numpy.int64)
         weights, places = numpy.empty(pairs, numpy.int64), numpy.empty(pairs, NODE)
         status = self.ask(
@@ -445,9 +439,8 @@ class Topology(Opened):
     def open_arrays(
         self, nodes: int, tails: Nodes, heads: Nodes, order: bytes | None = None,
     ) -> None:
-        """Opens the topology of the arcs from `tails[k]` to `heads[k]`, nodes from 0 on, in the
-        order that the lines `p` and `o` of a hierarchy name, or in one that the library finds. An
-        order in which new weights would take too long is a `DataFault`."""
+        """Opens the topology of the arcs from `tails` to `heads`, nodes from 0 on, in the order of
+        a hierarchy's lines, or in one that the library finds; a slow one is a `DataFault`."""
         given, fault, ends = saved_text(order), Fault(), ends_of(nodes, tails, heads, len(tails))
         call = self.calls.chtab_topology_open_arrays
         status = self.ask(call, nodes, *ends, given, ctypes.byref(fault))

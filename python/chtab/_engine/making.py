@@ -145,8 +145,7 @@ def digest_of(path: str) -> str:
 
 
 def build(program: str, graph: str, saved: str, running: Running) -> Handle | None:
-    """Builds the hierarchy of a graph, and saves it: the program does, in the order that takes the
-    least time to find, or in that of a saved hierarchy; or the network `like`, with a handle."""
+    """Builds and saves the hierarchy of a graph, by the program or the network `like`."""
     like, workers = running.like, ["--workers", str(running.workers)]
     if like is None:
         running_of.save(program, graph, saved, ["--quick", *workers], running.progress)

@@ -15,6 +15,7 @@ Steps: TypeAlias = Callable[[int, int], Any]
 SECONDS, ASKED_SECONDS = 10.0, 1.0
 # Of more things than so many the bar counts thousands and millions.
 MANY = 100_000
+Item = TypeVar("Item")
 
 
 def progress_of(
@@ -27,9 +28,6 @@ def progress_of(
         raise TypeError(f"progress is True, False or a call, not {asked!r}")
     return Progress(
         name, total, things, ASKED_SECONDS if asked else None, is_shown if asked is None else asked)
-
-
-Item = TypeVar("Item")
 
 
 class Progress:

@@ -14,7 +14,6 @@ if TYPE_CHECKING:
     from chtab._files.node_labels import Labels
     from chtab.typing import Floats, Integers, Point
 
-
 # Longitudes and latitudes, shape (n, 2).
 Line: TypeAlias = "Floats"
 

@@ -262,7 +262,8 @@ class Search:
         last = self.towards[0]
         one = last - self.flows
         if len(self.towards) == 1:
-            share = part_of(float(slopes * one @ ahead), float(slopes * one @ (fastest - last)))
+            share = part(float(slopes * one @ ahead), float(slopes * one @ (fastest - last)))
+            share = min(max(share, 0.0), 0.99)
             return share * last + (1 - share) * fastest
         before = self.towards[1]
         two = self.length * last + (1 - self.length) * before - self.flows
@@ -307,8 +308,3 @@ def root(slope: Callable[[float], float], below: float, above: float) -> float:
 def part(value: float, whole_value: float) -> float:
     """A quotient, 0 where there is none."""
     return value / whole_value if whole_value else 0.0
-
-
-def part_of(value: float, whole_value: float) -> float:
-    """The part of the last point in a conjugate direction, from 0 to below 1."""
-    return min(max(part(value, whole_value), 0.0), 0.99)

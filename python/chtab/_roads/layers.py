@@ -25,7 +25,6 @@ if TYPE_CHECKING:
     from chtab._roads.snapping import Roads
     from chtab.typing import Integers, Marks, Point
 
-
 Value = TypeVar("Value")
 # What is said of turns where there is no file of places.
 NO_TURNS = files.Coordinates(array.array("d"), array.array("d"), [])

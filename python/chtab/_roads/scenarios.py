@@ -164,8 +164,7 @@ class Given(NamedTuple):
                 "arcs", name)
 
     def see_that_once(self, name: str, index: Any) -> None:
-        """Refuses an index that has a label twice, unless it is that of the frame, where its place
-        says which row is meant."""
+        """Refuses an index with a label twice, unless its places say which rows are meant."""
         if index.is_unique:
             return
         rows = self.names.rows_of_index(name, index)
@@ -225,8 +224,7 @@ class Given(NamedTuple):
             found and [found[row] for row in rows.tolist()], keys, rounding)
 
     def free_keys(self, tails: Integers, heads: Integers) -> list[int]:
-        """A key for each new edge, as networkx gives it: the number of edges between its nodes, or
-        the first one from there on that is free. None if edges have no keys."""
+        """A key for each new edge, as networkx gives it; none if edges have no keys."""
         if self.names.keys is None:
             return []
         found = self.names.by_ends.of_each(self.names.key_of(tails, heads))
