@@ -359,6 +359,13 @@ def check_columns(tally):
         tally.expect(not (found := [number for number, line in lines if " _" * 8 in line]), f"{told(path)} leaves eight arguments in a row without a name: {found}")
 
 
+def check_python_columns(tally):
+    """No line of Python in the packages is longer than 100 columns."""
+    for path in sorted((ROOT / "python").rglob("*.py")):
+        found = [number for number, line in enumerate(path.read_text().splitlines(), 1) if len(line) > 100]
+        tally.expect(not found, f"{told(path)} has lines of over 100 columns: {found}")
+
+
 def check_text(tally, path):
     """A file of text has none of the strange words, and the pages that it names are there."""
     try:
@@ -398,6 +405,7 @@ def main():
     check_parts(tally)
     check_first_lines(tally)
     check_columns(tally)
+    check_python_columns(tally)
     layers.check_layers(tally)
     layers.check_times(tally)
     lacks.check_lacks(tally)

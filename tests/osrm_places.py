@@ -22,7 +22,8 @@ sys.path.insert(0, str(ROOT / "python"))
 
 import chtab  # noqa: E402
 from chtab._roads import legs  # noqa: E402
-from chtab._roads.legs import FAR, table_ways, table_weights  # noqa: E402
+from chtab._roads.legs import FAR, table_ways  # noqa: E402
+from chtab_server.osrm.tables import table_weights  # noqa: E402
 from chtab._roads.snapping import BACKWARD, FORWARD  # noqa: E402
 from chtab_server.osrm import answering, places, url  # noqa: E402
 from chtab_server.osrm.nearby import find_some, one_sided  # noqa: E402

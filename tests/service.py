@@ -377,7 +377,7 @@ def the_loop_answers_for_a_moment_alone():
         all_of_them = []
         for each in micros[1:]:
             micros[0] = each
-            told = await asyncio.gather(*(turns.answer("x", queue.Asked(answered, k, True, 1, True), lambda: False) for k in range(count)))
+            told = await asyncio.gather(*(turns.answer("x", queue.Task(answered, k, True, 1, True), lambda: False) for k in range(count)))
             assert told == list(range(count))
             all_of_them.append([*found])
             found.clear()

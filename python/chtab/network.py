@@ -190,7 +190,8 @@ class Network:
         made = network._layers.labelling
         if made is not None and made.scale is not None and made.unit is None and asked == Asked():
             from_arcs.warn_of_scale(made.scale, 4)
-        network._load(running)
+        if load:
+            network._engine.load()
         return network
 
     @classmethod
@@ -643,19 +644,6 @@ class Network:
         tails, heads = (numpy.asarray(column, numpy.int64) for column in (graph.tails, graph.heads))
         return Customizing(self._engine.calls, self.nodes, tails, heads, order)
 
-    def _weighed(self, weights: NDArray[numpy.int64], customizing: Customizing) -> Self:
-        """The same network with other weights of its arcs, in the order of the graph's lines. It is
-        written to no files, so that only this process can ask it."""
-        handle = customizing.handle(weights)
-        other = object.__new__(type(self))
-        vars(other).update(vars(self))
-        other._layers = self._layers.weighed(weights)
-        other._engine = InProcess(self._opened.setting)
-        other._engine.begin_with(handle)
-        other._trips = Trips(other._engine, other._layers)
-        other._customizing = customizing
-        return other
-
     def _topology(self) -> Customizing | None:
         """What customizes weights of the arcs of this network, if it was made customizable."""
         if self._customizing is None and self._opened.order is not None:
@@ -663,9 +651,7 @@ class Network:
         return self._customizing
 
     @classmethod
-    def _made(
-        cls, arcs: Arcs, folder: str | os.PathLike | None, running: opening.Running,
-    ) -> Self:
+    def _made(cls, arcs: Arcs, folder: str | os.PathLike | None, running: opening.Running) -> Self:
         """Writes the files of these arcs, and opens their network."""
         # Whoever changes a network was warned when it was made.
         if arcs.scale is not None and arcs.unit is None and arcs.beside is None:
@@ -681,16 +667,13 @@ class Network:
             network._customizing = running.customizing
             if handle is not None:
                 network._engine.begin_with(handle)
-            network._load(running)
+            if running.load:
+                network._engine.load()
         except BaseException:
             if kept is not None:
                 kept.remove()
             raise
         return network
-
-    def _load(self, running: opening.Running) -> None:
-        if running.load:
-            self._engine.load()
 
     # Between nodes.
 
@@ -1066,7 +1049,8 @@ class Network:
         rows = traffic.Rows(self._layers, self._measure)
         fixed = rows.fixed(tolls, value_of_time)
         curve: traffic.Bpr | traffic.Given
-        curve = rows.bpr(capacity, alpha, beta) if times is None else rows.times(times)
+        curve = (
+            rows.bpr(capacity, alpha, beta) if times is None else traffic.Given(times, rows.count))
         trips = of_flows.trips_in(self._layers, origins, destinations, demand, scale)
         search = traffic.Search(method, curve, fixed, traffic.Trips(self, rows, trips))
         return traffic.equilibrium_of(rows, search, gap, steps, progress)
@@ -1184,8 +1168,8 @@ class Network:
         at = rows.owners(), rows.ranks()
         places[at], weights[at] = rows.places, rows.weights
         found = self._measure.in_unit(weights, missing)
-        labels = asked.labels()
-        return Nearest.of(places, found, *labels, self._layers, asked.source_places())
+        own = asked.sources.places if isinstance(asked.sources, Spots) else None
+        return Nearest.of(places, found, *asked.labels(), self._layers, own)
 
     @timed
     def accessibility(
@@ -1394,9 +1378,7 @@ class Network:
         return TripRoutes(trip._replace(weight=measure.one(trip.weight)) for trip in found)
 
     @timed
-    def reach(
-        self, spot: Spots, within: Limit = None, *, missing: float | None = None,
-    ) -> NDArray:
+    def reach(self, spot: Spots, within: Limit = None, *, missing: float | None = None) -> NDArray:
         """Returns the weights at which nodes are reached from a spot.
 
         Parameters
@@ -1458,8 +1440,7 @@ class Network:
         areas = self._trips.isochrones(spot, [limit for limit, _ in asked])
         features = [
             geojson.feature(area, {"limit": limit}, "MultiPolygon")
-            for (_, limit), area in zip(asked, areas)
-        ]
+            for (_, limit), area in zip(asked, areas)]
         return Isochrones(geojson.collection(features))
 
     # Properties of the network. Those that need a file read it when they are first used.

@@ -65,27 +65,30 @@ def words_of(arguments: Sequence[str]) -> argparse.Namespace:
     parser.add_argument(
         "--metric", choices=UNITS, default="time",
         help="weights are milliseconds of travel, or metres (time)")
-    parser.add_argument("--turns", action="store_true", help="no turn is taken that the map forbids: a crossing with such turns becomes several nodes")
+    parser.add_argument(
+        "--turns", action="store_true",
+        help="no turn is taken that the map forbids: a crossing with such turns becomes several "
+        "nodes")
     parser.add_argument(
         "--turn-costs", action="store_true",
-        help="the same, and turns cost time by their angle, as do traffic lights and turning back: each arc of a road has nodes of its own",
-    )
+        help="the same, and turns cost time by their angle, as do traffic lights and turning back: "
+        "each arc of a road has nodes of its own")
     parser.add_argument(
         "--turning-back", choices=("crossings", "dead-ends"), default="crossings",
-        help="with --turns or --turn-costs: one turns back at dead ends and crossings, or at dead ends alone, for which --turns takes four times as many nodes (crossings)",
-    )
+        help="with --turns or --turn-costs: one turns back at dead ends and crossings, or at dead "
+        "ends alone, for which --turns takes four times as many nodes (crossings)")
     parser.add_argument(
         "--nodes", choices=("crossings", "all"), default="crossings",
-        help="crossings: nodes are where ways meet or end, and an arc is a stretch of way between two of them; all: each bend is a node too (crossings)",
-    )
+        help="crossings: nodes are where ways meet or end, and an arc is a stretch of way between "
+        "two of them; all: each bend is a node too (crossings)")
     parser.add_argument(
         "--part", type=part_of, default="largest", metavar="{largest,large,all,N}",
-        help="keep the largest strongly connected component; or each large one, so that an island is one; or all of them; or the N-th by size (largest)",
-    )
+        help="keep the largest strongly connected component; or each large one, so that an island "
+        "is one; or all of them; or the N-th by size (largest)")
     parser.add_argument(
         "--exclude", type=classes_of, default=(), metavar="CLASSES",
-        help="leave out the ways of some classes, for requests that exclude them: toll, motorway and ferry, with commas between them",
-    )
+        help="leave out the ways of some classes, for requests that exclude them: toll, motorway "
+        "and ferry, with commas between them")
     parser.add_argument(
         "--no-ferries", action="store_false", dest="ferries", help="leave ferries out")
     parser.add_argument(
@@ -96,12 +99,15 @@ def words_of(arguments: Sequence[str]) -> argparse.Namespace:
     parser.add_argument(
         "--driving-side", choices=files.SIDES, default="right",
         help="the side of the road that is driven on, for OUT.names and --turn-costs (right)")
-    parser.add_argument("--log", metavar="FILE", help="write a line of CSV for each object that was left out or ignored: its number, and why")
+    parser.add_argument(
+        "--log", metavar="FILE",
+        help="write a line of CSV for each object that was left out or ignored: its number, and "
+        "why")
     parser.add_argument("--quiet", action="store_true", help="write nothing on standard error")
     parser.add_argument(
         "map", metavar="MAP",
-        help="OpenStreetMap's XML, plain or packed (.gz, .bz2, .xz), or .osm.pbf (by Debian's package python3-pyosmium); - is standard input",
-    )
+        help="OpenStreetMap's XML, plain or packed (.gz, .bz2, .xz), or .osm.pbf (by Debian's "
+        "package python3-pyosmium); - is standard input")
     parser.add_argument(
         "out", metavar="OUT", help="the files that are written, without their suffix")
     found = parser.parse_args(arguments)
@@ -123,7 +129,9 @@ def main(arguments: Sequence[str]) -> None:
     if words.log is not None:
         report.write_log(words.log)
     if not words.quiet:
-        title = f"left out of {converting.name_of(words.map)}, for {profiles.profile(words.profile).people}"
+        title = (
+            f"left out of {converting.name_of(words.map)}, for "
+            f"{profiles.profile(words.profile).people}")
         print(*report.lines(title), sep="\n", file=sys.stderr)
     print(
         f"{len(made.names):,} nodes and {len(made.arcs):,} arcs in {', '.join(names[:-1])} and "

@@ -131,7 +131,9 @@ def kept_of(made: arcs.Network, wanted: str | int, report: Report) -> bytearray:
         ranked[:first] + ranked[last:],
         parts.kept_nodes(made, part, {component for component, _ in ranked[first:last]}))
     if others:
-        words = f"of {len(made.names) - len(made.ends):,}, in {len(others):,} parts of {others[0][1]:,} nodes and fewer"
+        words = (
+            f"of {len(made.names) - len(made.ends):,}, in {len(others):,} parts of "
+            f"{others[0][1]:,} nodes and fewer")
         report.note("parts", words, count=sum(size for _, size in others))
         for name in dict.fromkeys(name for name, is_kept in zip(made.names, kept) if not is_kept):
             report.note("parts", words, "node", name, 0)
@@ -199,11 +201,10 @@ def write(out: str, made: Numbered, comments: Sequence[str], unit: str) -> list[
             part, made.places, comments, made.ends, made.copies),
         "nodes": lambda part: files.write_names(part, made.names),
         "ways": lambda part: files.write_ways(part, made.ways, comments),
-        "bends": (
-            lambda part: files.write_bends(part, made.bends, comments)) if made.bends else None,
-        "names": None if streets is None else functools.partial(
-            files.write_streets, found=streets, comments=comments),
-    }
+        "bends": (lambda part: files.write_bends(part, made.bends, comments)) if made.bends
+        else None,
+        "names": None if streets is None
+        else functools.partial(files.write_streets, found=streets, comments=comments)}
     with contextlib.ExitStack() as stack:
         for suffix, writer in writers.items():
             if writer:

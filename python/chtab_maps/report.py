@@ -9,24 +9,17 @@ from typing import Any
 
 # The kinds of notes, in the order of the table.
 KINDS = {
-    "kinds": "ways of other kinds",
-    "closed": "ways closed by their tags",
-    "by time": "ways whose direction changes with the time",
-    "ferries": "ferries left out",
-    "excluded": "ways of the classes that --exclude names",
-    "deleted": "ways that are deleted",
-    "twice": "objects whose number came before",
-    "short": "ways of fewer than two nodes",
+    "kinds": "ways of other kinds", "closed": "ways closed by their tags",
+    "by time": "ways whose direction changes with the time", "ferries": "ferries left out",
+    "excluded": "ways of the classes that --exclude names", "deleted": "ways that are deleted",
+    "twice": "objects whose number came before", "short": "ways of fewer than two nodes",
     "missing": "nodes of roads that the map doesn't have: dead ends",
-    "barriers": "closed barriers: dead ends",
-    "barrier kinds": "barriers of unknown kind",
+    "barriers": "closed barriers: dead ends", "barrier kinds": "barriers of unknown kind",
     "access": "access tags passed over: no known word",
     "oneway": "one-way tags passed over: no known word",
     "speeds": "limits of speed passed over: unreadable or too high",
-    "durations": "ferries without a readable duration",
-    "turns": "turn restrictions left out",
-    "parts": "nodes of smaller components",
-}
+    "durations": "ferries without a readable duration", "turns": "turn restrictions left out",
+    "parts": "nodes of smaller components"}
 # How many words of a kind the table has.
 MOST_WORDS = 4
 

@@ -15,17 +15,8 @@ if TYPE_CHECKING:
 # open. https://wiki.openstreetmap.org/wiki/Key:oneway
 ALONG, AGAINST, BOTH, BY_TIME = 1, -1, 0, None
 DIRECTIONS: dict[str, int | None] = {
-    "yes": ALONG,
-    "true": ALONG,
-    "1": ALONG,
-    "-1": AGAINST,
-    "reverse": AGAINST,
-    "no": BOTH,
-    "false": BOTH,
-    "0": BOTH,
-    "alternating": BOTH,
-    "reversible": BY_TIME,
-}
+    "yes": ALONG, "true": ALONG, "1": ALONG, "-1": AGAINST, "reverse": AGAINST, "no": BOTH,
+    "false": BOTH, "0": BOTH, "alternating": BOTH, "reversible": BY_TIME}
 
 
 # The tags of an object of the map, and the notes about it: kinds and words.

@@ -1,7 +1,8 @@
 """The networks of a service, and their files.
 
-Files are opened when the service starts, and stay open. Whatever is read later, by a restarted process or by a run of the program, is therefore the
-original file, even if another file has its name by then.
+Files are opened when the service starts, and stay open. Whatever is read later, by a restarted
+process or by a run of the program, is therefore the original file, even if another file has its
+name by then.
 """
 from __future__ import annotations
 
@@ -26,14 +27,17 @@ if TYPE_CHECKING:
 
 LOG = logging.getLogger("chtab-page")
 # The files that each network has, and what they are for.
-NEEDED = {"gr": "the graph, as osm_to_gr.py writes it", "co": "the coordinates of the graph's nodes, to take places to roads"}
+NEEDED = {
+    "gr": "the graph, as osm_to_gr.py writes it",
+    "co": "the coordinates of the graph's nodes, to take places to roads"}
 # The optional files of a network, besides its graph and its coordinates.
 OPTIONAL = "bends", "names", "nodes"
 
 
 class Named(NamedTuple):
-    """A network of the command line: its name for clients, empty if they may use any name, with the classes of ways that it lacks behind a slash; the start
-    of the names of its files, and its saved hierarchy or None."""
+    """A network of the command line: its name for clients, empty if they may use any name, with the
+    classes of ways that it lacks behind a slash; the start of the names of its files, and its saved
+    hierarchy or None."""
 
     name: str
     out: str
@@ -55,7 +59,7 @@ class Kept:
         self.paths[path] = name
         return path
 
-    def told(self, text: str) -> str:
+    def translated(self, text: str) -> str:
         """A text with the original names of files."""
         # The longest first, because one path may be the start of another.
         for path in sorted(self.paths, key=len, reverse=True):
@@ -68,18 +72,22 @@ class Kept:
 
 
 class Served:
-    """A network with the streets of its arcs, `files.Streets` or None, and the map's numbers of its nodes, or None."""
+    """A network with the streets of its arcs, `files.Streets` or None, and the map's numbers of its
+    nodes, or None."""
 
     def __init__(self, named: Named, kept: Kept, **running: Any) -> None:
         for suffix, what in NEEDED.items():
             if not os.path.exists(f"{named.out}.{suffix}"):
                 raise ChtabError(f"{named.out}.{suffix} is missing: a service needs {what}")
         paths = {suffix: kept.path(f"{named.out}.{suffix}") for suffix in NEEDED}
-        paths |= {suffix: kept.path(f"{named.out}.{suffix}") for suffix in OPTIONAL if os.path.exists(f"{named.out}.{suffix}")}
+        paths |= {
+            suffix: kept.path(f"{named.out}.{suffix}") for suffix in OPTIONAL
+            if os.path.exists(f"{named.out}.{suffix}")}
         saved = None if named.saved is None else kept.path(named.saved)
         self.name, self.out, self.paths = named.name, named.out, paths
         self.title = named.out.rpartition("/")[2]
-        self.network = Network.open(paths["gr"], saved, coordinates=paths["co"], bends=paths.get("bends"), **running)
+        self.network = Network.open(
+            paths["gr"], saved, coordinates=paths["co"], bends=paths.get("bends"), **running)
         made = self.found(kept)
         if made is None:
             network, arcs = self.network, len(self.network.roads.tails)
@@ -87,7 +95,8 @@ class Served:
             numbers = numbers_in(paths["nodes"], network.nodes) if "nodes" in paths else None
             made = stored.made(network, streets, numbers)
         self.network._layers.kept |= {"roads": made.roads, "coordinates": made.coordinates}
-        self.made, self.crossings, self.streets, self.numbers = made, made.crossings, made.streets, made.numbers
+        self.made, self.crossings, self.streets, self.numbers = (
+            made, made.crossings, made.streets, made.numbers)
         # The handle of the library that the first process opens, and the forked ones take.
         self.opened: Handle | None = None
 
@@ -99,7 +108,7 @@ class Served:
         try:
             return stored.read(kept.path(name), self.sums())
         except files.FileFault as fault:
-            LOG.warning("%s; what it has is made anew", kept.told(str(fault)))
+            LOG.warning("%s; what it has is made anew", kept.translated(str(fault)))
             return None
 
     def sums(self) -> dict[str, str]:
@@ -107,8 +116,8 @@ class Served:
         return {suffix: digest_of(path) for suffix, path in self.paths.items()}
 
     def prepare(self) -> str:
-        """Keeps what is made for the network in a file beside it, from which further services begin;
-        its name."""
+        """Keeps what is made for the network in a file beside it, from which further services
+        begin; its name."""
         name = self.out + stored.SUFFIX
         stored.write(name, self.sums(), self.made._replace(tiles=self.tiles))
         return name
@@ -125,7 +134,8 @@ class Served:
 
     @property
     def profiles(self) -> tuple[str, ...]:
-        """The names that clients may call the network, without the classes of ways that it lacks; none if any name will do."""
+        """The names that clients may call the network, without the classes of ways that it lacks;
+        none if any name will do."""
         return (self.name.partition("/")[0],) if self.name else ()
 
     def open_once(self) -> None:
@@ -133,16 +143,18 @@ class Served:
         self.opened = self.engine.first_handle()
 
     def load(self) -> None:
-        """Starts the engine if it is not there. A forked process takes what the first one has opened."""
+        """Starts the engine if it is not there. A forked process takes what the first one has
+        opened."""
         engine = self.engine
-        if self.opened is not None and not engine.living():
+        if self.opened is not None and engine.first is None:
             engine.begin_with(self.opened)
         else:
             engine.load()
 
 
 class Networks:
-    """The networks of a service, opened with the same options of `Network.open`. The page and requests in JSON use the first one."""
+    """The networks of a service, opened with the same options of `Network.open`. The page and
+    requests in JSON use the first one."""
 
     def __init__(self, named: Sequence[Named], **running: Any) -> None:
         self.kept = Kept()
@@ -152,7 +164,7 @@ class Networks:
                 self.served.append(Served(each, self.kept, **running))
         except ChtabError as fault:
             self.close()
-            raise ChtabError(self.told(str(fault))) from None
+            raise ChtabError(self.translated(str(fault))) from None
         except BaseException:
             self.close()
             raise
@@ -164,9 +176,9 @@ class Networks:
     def first(self) -> Served:
         return self.served[0]
 
-    def told(self, text: str) -> str:
+    def translated(self, text: str) -> str:
         """A text with the names of files from the command line."""
-        return self.kept.told(text)
+        return self.kept.translated(text)
 
     def load(self) -> None:
         """Starts the engines that are not there."""
@@ -180,7 +192,7 @@ class Networks:
 
     def are_ready(self) -> bool:
         """Whether each network has a living engine."""
-        return all(each.engine.living() for each in self.served)
+        return all(each.engine.first is not None for each in self.served)
 
     def close(self) -> None:
         for each in self.served:

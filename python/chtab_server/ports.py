@@ -1,7 +1,8 @@
-"""The port of a service, and how another service takes it over. The second service gets the socket itself, so that no waiting connection is lost.
+"""The port of a service, and how another service takes it over. The second service gets the socket
+itself, so that no waiting connection is lost.
 
-The owner of a port also listens at an abstract Unix address that is named after the port, and gives its sockets to any process of the same user that
-asks there.
+The owner of a port also listens at an abstract Unix address that is named after the port, and gives
+its sockets to any process of the same user that asks there.
 """
 from __future__ import annotations
 
@@ -14,14 +15,15 @@ from typing import Any
 
 from chtab.errors import ChtabError
 
-# The seconds within which a service has to hand over its port, also on a machine with much other work.
+# The seconds within which a service has to hand over its port, also on a machine with much other
+# work.
 PATIENCE = 60.0
 CREDENTIALS = struct.Struct("3i")
 
 
 class Listening(socket.socket):
-    """A socket that accepts one connection at a time. asyncio accepts as many as are waiting, so that one process would get all connections that
-    arrive together."""
+    """A socket that accepts one connection at a time. asyncio accepts as many as are waiting, so
+    that one process would get all connections that arrive together."""
 
     is_next = True
 
@@ -46,7 +48,8 @@ class Port:
         return f"http://{f'[{host}]' if ':' in host else host}:{port}/"
 
     def hand_over(self) -> bool:
-        """Gives the port to a service that asks for it, and returns whether one did. This service goes on until it is ended."""
+        """Gives the port to a service that asks for it, and returns whether one did. This service
+        goes on until it is ended."""
         try:
             asking, _ = self.control.accept()
         except OSError:
@@ -67,7 +70,8 @@ class Port:
 
 def user_of(connection: socket.socket) -> int:
     """The number of the user at the other end of a connection."""
-    _, user, _ = CREDENTIALS.unpack(connection.getsockopt(socket.SOL_SOCKET, socket.SO_PEERCRED, CREDENTIALS.size))
+    _, user, _ = CREDENTIALS.unpack(
+        connection.getsockopt(socket.SOL_SOCKET, socket.SO_PEERCRED, CREDENTIALS.size))
     return user
 
 
@@ -77,8 +81,10 @@ def name_of(listening: socket.socket) -> str:
 
 
 def port_at(host: str, port: int, takes_over: bool = False) -> Port:
-    """The port of an address: taken over from the service that listens there if `takes_over`, and otherwise a new one."""
-    family, kind, protocol, _, address = socket.getaddrinfo(host, port, type=socket.SOCK_STREAM, flags=socket.AI_PASSIVE)[0]
+    """The port of an address: taken over from the service that listens there if `takes_over`, and
+    otherwise a new one."""
+    family, kind, protocol, _, address = (
+        socket.getaddrinfo(host, port, type=socket.SOCK_STREAM, flags=socket.AI_PASSIVE)[0])
     listening = Listening(family, kind, protocol)
     listening.setsockopt(socket.SOL_SOCKET, socket.SO_REUSEADDR, 1)
     try:
@@ -89,12 +95,15 @@ def port_at(host: str, port: int, takes_over: bool = False) -> Port:
             raise
         if takes_over:
             return taken_over(address)
-        raise ChtabError(f"port {port} of {host} is taken: a second service there would share its requests; give --takeover to replace one") from None
+        raise ChtabError(
+            f"port {port} of {host} is taken: a second service there would share its requests; "
+            "give --takeover to replace one") from None
     control = socket.socket(socket.AF_UNIX)
     try:
         control.bind(name_of(listening))
     except OSError:
-        # Another service still has the Unix address of a port that it has left. This service works, but its port can't be taken over.
+        # Another service still has the Unix address of a port that it has left. This service works,
+        # but its port can't be taken over.
         control.bind("")
     control.listen()
     return Port(listening, control)
@@ -113,7 +122,9 @@ def taken_over(address: tuple[Any, ...]) -> Port:
     except OSError:
         found = []
     if len(found) != 2:
-        raise ChtabError(f"what listens at port {port} of {host} is no service of this kind and of this user, which could be taken over")
+        raise ChtabError(
+            f"what listens at port {port} of {host} is no service of this kind and of this user, "
+            "which could be taken over")
     for number in found:
         os.set_inheritable(number, False)
     return Port(Listening(fileno=found[0]), socket.socket(fileno=found[1]))
@@ -123,5 +134,7 @@ def notify(state: str) -> None:
     """Reports a state of the service to systemd, if it waits for that (`Type=notify`)."""
     name = os.environ.get("NOTIFY_SOCKET")
     if name:
-        with socket.socket(socket.AF_UNIX, socket.SOCK_DGRAM) as there, contextlib.suppress(OSError):
+        with socket.socket(socket.AF_UNIX, socket.SOCK_DGRAM) as there, contextlib.suppress(
+            OSError
+        ):
             there.sendto(state.encode(), "\0" + name[1:] if name.startswith("@") else name)

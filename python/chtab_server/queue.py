@@ -1,8 +1,10 @@
-"""The order in which requests are answered: each client address has a queue, and the addresses take turns, so that none keeps the others waiting.
+"""The order in which requests are answered: each client address has a queue, and the addresses take
+turns, so that none keeps the others waiting.
 
-A few requests are answered at once, in threads, and never all of them for one address. Questions that can be answered together are taken
-together, from all addresses in turn. Those whose answers take a moment are answered in the loop itself, once all are there that came at the same
-time: to hand them to a thread would take longer.
+A few requests are answered at once, in threads, and never all of them for one address. Questions
+that can be answered together are taken together, from all addresses in turn. Those whose answers
+take a moment are answered in the loop itself, once all are there that came at the same time: to
+hand them to a thread would take longer.
 """
 from __future__ import annotations
 
@@ -21,12 +23,15 @@ from chtab.errors import ProgramFault
 
 # A call that answers a list of questions.
 Call: TypeAlias = Callable[[list[Any]], Sequence[Any]]
-# The CPU seconds in which the loop may answer questions itself, while it does nothing else; the part of them for which questions are taken
-# together, because the next ones may take longer; and the weight of the last answers in the estimate for the next ones.
+# The CPU seconds in which the loop may answer questions itself, while it does nothing else; the
+# part of them for which questions are taken together, because the next ones may take longer; and
+# the weight of the last answers in the estimate for the next ones.
 MOMENT, MARGIN, LATEST = 0.02, 0.5, 0.25
-# By how much more may be done together at most than the last time, and the least seconds that can be measured.
+# By how much more may be done together at most than the last time, and the least seconds that can
+# be measured.
 GROWTH, SHORTEST = 1.25, 1e-6
-# Turns of the loop without a further request after which those are there that came at the same time.
+# Turns of the loop without a further request after which those are there that came at the same
+# time.
 TURNS = 3
 
 
@@ -39,31 +44,36 @@ class Gone(Exception):
 
 
 class Pace(NamedTuple):
-    """How long the last answers of a call took together, in CPU seconds, how much work they were, and how much may be done together. What a call
-    does once for all questions makes this more than the pace says."""
+    """How long the last answers of a call took together, in CPU seconds, how much work they were,
+    and how much may be done together. What a call does once for all questions makes this more than
+    the pace says."""
 
     seconds: float
     work: float
     most: float
 
     def after(self, seconds: float, work: float) -> Pace:
-        """The pace after further answers. If they took too long, less is done together from now on, and more if much was done in less time."""
+        """The pace after further answers. If they took too long, less is done together from now on,
+        and more if much was done in less time."""
         most, share = self.most, MARGIN * MOMENT / max(seconds, SHORTEST)
         if share < 1:
             most = work * share
         elif work > most / 2:
             most *= min(share, GROWTH)
-        return Pace(self.seconds + LATEST * (seconds - self.seconds), self.work + LATEST * (work - self.work), most)
+        return Pace(
+            self.seconds + LATEST * (seconds - self.seconds),
+            self.work + LATEST * (work - self.work), most)
 
     def reckoned(self, work: float) -> float:
         """The seconds for questions that are so much work."""
         return self.seconds * work / self.work
 
 
-class Asked(NamedTuple):
-    """What is asked. `call` answers a list of questions by a list, in which a fault is the answer to its question. Questions of one call that
-    `is_shared` may be answered together, as far as their sizes go. The loop may answer one that `is_quick` itself; how long that takes is
-    reckoned by the work that questions of its call are."""
+class Task(NamedTuple):
+    """A question. `call` answers a list of questions by a list, in which a fault is the answer
+    to its question. Questions of one call that `is_shared` may be answered together, as far as
+    their sizes go. The loop may answer one that `is_quick` itself; how long that takes is reckoned
+    by the work that questions of its call are."""
 
     call: Call
     question: Any
@@ -75,12 +85,13 @@ class Asked(NamedTuple):
 
 @dataclass(eq=False)
 class Job:
-    """A question that waits for the client at an address. `told` gets its answer, or the error."""
+    """A question that waits for the client at an address. `settle` gets its answer, or the
+    error."""
 
     address: str
-    asked: Asked
+    task: Task
     is_gone: Callable[[], bool]
-    told: Callable[[Any], object]
+    settle: Callable[[Any], object]
     is_ended: bool = False
 
 
@@ -95,7 +106,8 @@ def settle(waiting: asyncio.Future[Any], found: Any) -> None:
 
 
 def answers_to(call: Call, questions: list[Any]) -> tuple[Sequence[Any], float]:
-    """The answers to questions, and the CPU seconds that this thread took for them. A run that ended is started again, and asked once more."""
+    """The answers to questions, and the CPU seconds that this thread took for them. A run that
+    ended is started again, and asked once more."""
     begun = time.thread_time()
     try:
         found = call(questions)
@@ -120,12 +132,13 @@ class Turns:
     def __init__(self, at_once: int, most: int, together: int) -> None:
         self.at_once, self.most, self.together = at_once, most, together
         self.threads = concurrent.futures.ThreadPoolExecutor(at_once)
-        # The jobs that wait, by address, the one whose turn it is first; how many batches are underway; and how many jobs are not answered.
+        # The jobs that wait, by address, the one whose turn it is first; how many batches are
+        # underway; and how many jobs are not answered.
         self.lines: collections.OrderedDict[str, collections.deque[Job]] = collections.OrderedDict()
         self.underway: collections.Counter[str] = collections.Counter()
         self.unanswered = 0
-        # How long answers take, by their call; whether it will soon be looked whose turn it is; how many turns of the loop no request came; and
-        # how many questions the loop answered last.
+        # How long answers take, by their call; whether it will soon be looked whose turn it is; how
+        # many turns of the loop no request came; and how many questions the loop answered last.
         self.paces: dict[Call, Pace] = {}
         self.is_due, self.turns, self.answered = False, 0, 1
 
@@ -136,10 +149,10 @@ class Turns:
     def close(self) -> None:
         self.threads.shutdown(wait=False, cancel_futures=True)
 
-    async def answer(self, address: str, asked: Asked, is_gone: Callable[[], bool]) -> Any:
+    async def answer(self, address: str, task: Task, is_gone: Callable[[], bool]) -> Any:
         """Waits for the turn of a client, and returns the answer to its question."""
         waiting: asyncio.Future[Any] = asyncio.get_running_loop().create_future()
-        job = Job(address, asked, is_gone, functools.partial(settle, waiting))
+        job = Job(address, task, is_gone, functools.partial(settle, waiting))
         self.take(job)
         try:
             return await waiting
@@ -149,7 +162,8 @@ class Turns:
             raise
 
     def take(self, job: Job) -> None:
-        """Takes a job, which gets its answer once it had its turn. Raises a `Busy` if too many wait."""
+        """Takes a job, which gets its answer once it had its turn. Raises a `Busy` if too many
+        wait."""
         if self.is_full:
             self.make_room(job.address)
         self.unanswered += 1
@@ -165,11 +179,14 @@ class Turns:
         if not job.is_ended:
             job.is_ended = True
             self.unanswered -= 1
-            job.told(found)
+            job.settle(found)
 
     def make_room(self, address: str) -> None:
-        """Rejects the newest request of the address with the most waiting requests, if it has more than this address."""
-        greedy, line = max(self.lines.items(), key=lambda item: len(item[1]), default=(address, collections.deque()))
+        """Rejects the newest request of the address with the most waiting requests, if it has more
+        than this address."""
+        greedy, line = max(
+            self.lines.items(), key=lambda item: len(item[1]),
+            default=(address, collections.deque()))
         if len(line) <= len(self.lines.get(address, ())) + 1:
             raise Busy
         job = line.pop()
@@ -192,11 +209,14 @@ class Turns:
 
     def is_moment(self, address: str) -> bool:
         """Whether the first job of an address takes a moment."""
-        asked = self.lines[address][0].asked
-        return asked.is_quick and asked.call in self.paces and self.paces[asked.call].reckoned(asked.work) < MOMENT
+        task = self.lines[address][0].task
+        return (
+            task.is_quick and task.call in self.paces
+            and self.paces[task.call].reckoned(task.work) < MOMENT)
 
     def may_begin(self, address: str) -> bool:
-        """Whether an address may use another thread. One thread is always kept for the other addresses."""
+        """Whether an address may use another thread. One thread is always kept for the other
+        addresses."""
         return self.underway[address] < max(1, self.at_once - 1) and not self.is_moment(address)
 
     def begin_soon(self) -> None:
@@ -206,7 +226,8 @@ class Turns:
             asyncio.get_running_loop().call_soon(self.look)
 
     def look(self) -> None:
-        """Begins what can begin. Where requests come together, they are waited for as long as others come."""
+        """Begins what can begin. Where requests come together, they are waited for as long as
+        others come."""
         self.turns += 1
         if self.answered > 1 and self.turns <= TURNS and self.unanswered < self.together:
             asyncio.get_running_loop().call_soon(self.look)
@@ -234,7 +255,8 @@ class Turns:
         if not jobs:
             return
         try:
-            found = self.noted(jobs, *answers_to(jobs[0].asked.call, [job.asked.question for job in jobs]))
+            found = self.noted(
+                jobs, *answers_to(jobs[0].task.call, [job.task.question for job in jobs]))
         except Exception as fault:
             found = [fault] * len(jobs)
         self.answered = len(jobs)
@@ -243,22 +265,26 @@ class Turns:
 
     def noted(self, jobs: list[Job], found: Sequence[Any], seconds: float) -> Sequence[Any]:
         """The answers to jobs. It is noted how long they took."""
-        call, work = jobs[0].asked.call, sum(job.asked.work for job in jobs)
+        call, work = jobs[0].task.call, sum(job.task.work for job in jobs)
         self.paces[call] = self.paces.get(call, Pace(seconds, work, work)).after(seconds, work)
         return found
 
     def taken(self, address: str) -> list[Job]:
-        """The next job of an address, and those that are answered together with it; none where the clients went away."""
+        """The next job of an address, and those that are answered together with it; none where the
+        clients went away."""
         first = self.next_of(address)
         if first is None:
             return []
-        jobs, asked = [first], first.asked
-        size, work, most = asked.size, asked.work, self.most_work(asked)
-        while asked.is_shared and size < self.together:
-            other = next((name for name, line in self.lines.items() if line[0].asked.is_shared and line[0].asked.call == asked.call), None)
+        jobs, task = [first], first.task
+        size, work, most = task.size, task.work, self.most_work(task)
+        while task.is_shared and size < self.together:
+            other = next(
+                (
+                    name for name, line in self.lines.items()
+                    if line[0].task.is_shared and line[0].task.call == task.call), None)
             if other is None:
                 break
-            more = self.lines[other][0].asked
+            more = self.lines[other][0].task
             if size + more.size > self.together or work + more.work > most:
                 break
             job = self.next_of(other)
@@ -267,13 +293,15 @@ class Turns:
                 size, work = size + more.size, work + more.work
         return jobs
 
-    def most_work(self, asked: Asked) -> float:
-        """How much work questions that are answered together may be, so that the loop does something else before the moment is over."""
-        pace = self.paces.get(asked.call) if asked.is_quick else None
+    def most_work(self, task: Task) -> float:
+        """How much work questions that are answered together may be, so that the loop does
+        something else before the moment is over."""
+        pace = self.paces.get(task.call) if task.is_quick else None
         return math.inf if pace is None else pace.most
 
     def next_of(self, address: str) -> Job | None:
-        """Takes the next job of an address, whose next turn then comes after those of all others; None if its client has gone."""
+        """Takes the next job of an address, whose next turn then comes after those of all others;
+        None if its client has gone."""
         job = self.lines[address].popleft()
         self.lines.move_to_end(address)
         self.drop_line(address)
@@ -286,8 +314,9 @@ class Turns:
         """Answers jobs in a thread."""
         loop = asyncio.get_running_loop()
         try:
-            told = await loop.run_in_executor(self.threads, answers_to, jobs[0].asked.call, [job.asked.question for job in jobs])
-            found = self.noted(jobs, *told) if jobs[0].asked.is_quick else told[0]
+            answered = await loop.run_in_executor(
+                self.threads, answers_to, jobs[0].task.call, [job.task.question for job in jobs])
+            found = self.noted(jobs, *answered) if jobs[0].task.is_quick else answered[0]
         except BaseException as fault:
             found = [fault] * len(jobs)
         finally:

@@ -1,4 +1,5 @@
-"""Requests in JSON: their limits, and their fields, which are checked before anything is looked up."""
+"""Requests in JSON: their limits, and their fields, which are checked before anything is looked
+up."""
 from __future__ import annotations
 
 import json
@@ -26,12 +27,14 @@ class Limits:
     bands: int = 12
     # Metres from a place to the nearest road.
     metres: float = 1_000.0
-    # Requests that are answered at a time, and that wait; and how many legs of routes are answered together.
+    # Requests that are answered at a time, and that wait; and how many legs of routes are answered
+    # together.
     at_once: int = 2
     waiting: int = 200
     together: int = 64
-    # The seconds for the body of a request, those after which an idle connection is closed, those for requests that are underway when the service
-    # ends, and those in which clients of a replaced service may send one more request on each connection.
+    # The seconds for the body of a request, those after which an idle connection is closed, those
+    # for requests that are underway when the service ends, and those in which clients of a replaced
+    # service may send one more request on each connection.
     sending: float = 30.0
     idle: float = 60.0
     ending: float = 30.0
@@ -75,7 +78,9 @@ def place_in(value: Any, name: str) -> Point:
     """A place: [longitude, latitude] in degrees."""
     if not isinstance(value, list) or len(value) != 2:
         raise Refused(f"{name} is a place [longitude, latitude]")
-    return number_in(value[0], -180, 180, f"the longitude of {name}"), number_in(value[1], -90, 90, f"the latitude of {name}")
+    return (
+        number_in(value[0], -180, 180, f"the longitude of {name}"),
+        number_in(value[1], -90, 90, f"the latitude of {name}"))
 
 
 def places_in(value: Any, name: str, most: int) -> list[Point]:
@@ -85,7 +90,8 @@ def places_in(value: Any, name: str, most: int) -> list[Point]:
 
 
 def fields_of(body: bytes, needed: Sequence[str], optional: Sequence[str] = ()) -> dict[str, Any]:
-    """The fields of a request, which has to be an object of JSON with these fields and no others."""
+    """The fields of a request, which has to be an object of JSON with these fields and no
+    others."""
     try:
         fields = json.loads(body)
     except (ValueError, RecursionError):
@@ -97,5 +103,6 @@ def fields_of(body: bytes, needed: Sequence[str], optional: Sequence[str] = ()) 
             raise Refused(f"{name} is missing")
     for name in fields:
         if name not in (*needed, *optional):
-            raise Refused(f"{name[:40]} is not known; the fields are {', '.join((*needed, *optional))}")
+            raise Refused(
+                f"{name[:40]} is not known; the fields are {', '.join((*needed, *optional))}")
     return fields

@@ -1,5 +1,5 @@
-"""Answers of JSON that are sent in one piece. aiohttp sends the head and the body of an answer by a call of the system each, which takes as long as
-finding a route."""
+"""Answers of JSON that are sent in one piece. aiohttp sends the head and the body of an answer by a
+call of the system each, which takes as long as finding a route."""
 from __future__ import annotations
 
 import email.utils
@@ -26,7 +26,8 @@ def date_at(second: int) -> str:
 
 
 class JsonAnswer(web.StreamResponse):
-    """An answer of status 200 with a text of JSON. `lines` are the headers of all such answers, and further ones may be added to `headers`."""
+    """An answer of status 200 with a text of JSON. `lines` are the headers of all such answers, and
+    further ones may be added to `headers`."""
 
     def __init__(self, text: str, lines: str) -> None:
         super().__init__()
@@ -60,9 +61,12 @@ class JsonAnswer(web.StreamResponse):
         elif not self.stays_open and version == HttpVersion11:
             connection = "Connection: close\r\n"
         more = lines_of(self.headers) if self.headers else ""
-        head = f"HTTP/{version.major}.{version.minor} 200 OK\r\nContent-Type: {CONTENT_TYPE}\r\n{self.lines}{more}Content-Length: {len(self.text)}\r\n" \
-            f"Date: {date_at(int(time.time()))}\r\n{connection}\r\n"
-        self.bytes = head.encode() if request.method == hdrs.METH_HEAD else head.encode() + self.text
+        head = (
+            f"HTTP/{version.major}.{version.minor} 200 OK\r\nContent-Type: {CONTENT_TYPE}\r\n"
+            f"{self.lines}{more}Content-Length: {len(self.text)}\r\n"
+            f"Date: {date_at(int(time.time()))}\r\n{connection}\r\n")
+        self.bytes = (
+            head.encode() if request.method == hdrs.METH_HEAD else head.encode() + self.text)
         self.writer = request.writer
         return self.writer
 

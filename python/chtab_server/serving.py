@@ -1,7 +1,8 @@
 """The processes of the service: how several of them answer at one port, and how they end.
 
-With several processes, the first one reads the networks and supervises the others, which are forked from it and share what it has made. All of them
-accept connections from one socket, so that no waiting connection is lost when a process ends. A process that ends by itself is restarted.
+With several processes, the first one reads the networks and supervises the others, which are forked
+from it and share what it has made. All of them accept connections from one socket, so that no
+waiting connection is lost when a process ends. A process that ends by itself is restarted.
 """
 from __future__ import annotations
 
@@ -30,13 +31,16 @@ if TYPE_CHECKING:
 
 LOG = logging.getLogger("chtab.service")
 ENDING = signal.SIGINT, signal.SIGTERM
-# The signal for a process whose port another service has taken over, and the one that makes the file of speeds be read again.
+# The signal for a process whose port another service has taken over, and the one that makes the
+# file of speeds be read again.
 SUCCEEDED, RENEWED = signal.SIGUSR1, signal.SIGHUP
 # The seconds between two notes of states, and between two checks of the engines.
 NOTES, LOOKS = 5.0, 1.0
-# The seconds before a process that ended by itself is restarted: at first, and at most after repeated failures.
+# The seconds before a process that ended by itself is restarted: at first, and at most after
+# repeated failures.
 PAUSE, LONGEST_PAUSE = 1.0, 60.0
-# The number of tries to start an engine or a process, and the exit status of a service that has no more (EX_SOFTWARE of sysexits.h).
+# The number of tries to start an engine or a process, and the exit status of a service that has no
+# more (EX_SOFTWARE of sysexits.h).
 TRIES, GIVEN_UP = 3, 70
 # The seconds in which an accepted socket becomes a connection.
 SETTLING = 0.1
@@ -50,26 +54,30 @@ class Serving:
     def __init__(self, service: Service, port: Port) -> None:
         self.service, self.port = service, port
         self.recorder = Recorder(service.row, service.proxy, service.choices.log_form)
-        self.connections = Connections(service.limits.idle, service.caps, self.recorder, service.proxy)
+        self.connections = Connections(
+            service.limits.idle, service.caps, self.recorder, service.proxy)
         self.loop, self.ended = asyncio.get_running_loop(), asyncio.Event()
         self.is_succeeded, self.status = False, 0
 
     async def run(self, tell: Callable[[], object], parent: int | None = None) -> int:
-        """Serves, ends once the requests that are underway are answered, and returns the exit status. It also ends when the supervising process has
-        ended, which closes the pipe `parent`."""
+        """Serves, ends once the requests that are underway are answered, and returns the exit
+        status. It also ends when the supervising process has ended, which closes the pipe
+        `parent`."""
         service, limits = self.service, self.service.limits
         around = service.middleware(self.connections, self.recorder)
         runner = web.AppRunner(service.application(around), access_log=None)
         await runner.setup()
         http = cast(web.Server, runner.server)
         http.request_handler = service.front(around, http.request_handler)
-        self.loop.set_exception_handler(self.told_fault)
+        self.loop.set_exception_handler(self.report_fault)
         protocols = self.connections.watched(
-            http, access_log=None, keepalive_timeout=limits.idle, max_line_size=service.longest, max_field_size=service.longest,
-            auto_decompress=False,
-        )
+            http, access_log=None, keepalive_timeout=limits.idle, max_line_size=service.longest,
+            max_field_size=service.longest, auto_decompress=False)
         server = await self.loop.create_server(protocols, sock=self.port.listening, backlog=BACKLOG)
-        tasks = [self.loop.create_task(each) for each in (self.connections.close_idle(), self.keep_notes(), self.keep_answering(), self.keep_speeds())]
+        tasks = [
+            self.loop.create_task(each) for each in (
+                self.connections.close_idle(), self.keep_notes(), self.keep_answering(),
+                self.keep_speeds())]
         try:
             self.hear(parent)
             tell()
@@ -95,7 +103,8 @@ class Serving:
         return self.status
 
     def hear(self, parent: int | None) -> None:
-        """Listens for signals that end the service, and for another service that takes the port over."""
+        """Listens for signals that end the service, and for another service that takes the port
+        over."""
         for number in ENDING:
             self.loop.add_signal_handler(number, self.ended.set)
         self.loop.add_signal_handler(SUCCEEDED, self.succeeded)
@@ -114,8 +123,9 @@ class Serving:
     def succeeded(self) -> None:
         self.is_succeeded = True
 
-    def told_fault(self, loop: asyncio.AbstractEventLoop, context: dict[str, Any]) -> None:
-        """Reports connections that the system refused once a minute, and any other error as usual."""
+    def report_fault(self, loop: asyncio.AbstractEventLoop, context: dict[str, Any]) -> None:
+        """Reports connections that the system refused once a minute, and any other error as
+        usual."""
         if isinstance(context.get("exception"), OSError):
             self.recorder.note_event("system", "", 0, str(context["exception"]))
         else:
@@ -128,7 +138,8 @@ class Serving:
             await asyncio.sleep(NOTES)
 
     async def keep_answering(self) -> None:
-        """Checks that the engines are there, starts those that are not, and ends the service if that fails repeatedly."""
+        """Checks that the engines are there, starts those that are not, and ends the service if
+        that fails repeatedly."""
         tries = 0
         while True:
             with contextlib.suppress(asyncio.TimeoutError):
@@ -142,7 +153,7 @@ class Serving:
                 self.service.doubt.clear()
             except ChtabError as fault:
                 tries += 1
-                LOG.error("%s", self.service.networks.told(str(fault)))
+                LOG.error("%s", self.service.networks.translated(str(fault)))
                 if tries >= TRIES:
                     LOG.error("the engine could not be started %d times: the service ends", TRIES)
                     self.status = GIVEN_UP
@@ -152,7 +163,8 @@ class Serving:
 
 
     async def keep_speeds(self) -> None:
-        """Reads the file of speeds again after a signal, and once it is replaced, and exchanges what answers."""
+        """Reads the file of speeds again after a signal, and once it is replaced, and exchanges
+        what answers."""
         service, traffic = self.service, self.service.traffic
         while traffic is not None:
             with contextlib.suppress(asyncio.TimeoutError):
@@ -164,68 +176,85 @@ class Serving:
                 await self.loop.run_in_executor(None, service.renew)
                 service.exchange()
             except (ChtabError, OSError) as fault:
-                LOG.error("%s: the speeds before stay", service.networks.told(str(fault)))
+                LOG.error("%s: the speeds before stay", service.networks.translated(str(fault)))
 
 
-async def serve(service: Service, port: Port, tell: Callable[[], object], parent: int | None = None) -> int:
+async def serve(
+    service: Service, port: Port, tell: Callable[[], object], parent: int | None = None,
+) -> int:
     """Serves at a port until a signal arrives, and returns the exit status."""
     return await Serving(service, port).run(tell, parent)
 
 
 class Child:
-    """A process that serves: its number, its place among the others, and the pipe that it reports on once it serves."""
+    """A process that serves: its number, its place among the others, and the pipe that it reports
+    on once it serves."""
 
-    def __init__(self, number: int, place: int, told: int) -> None:
-        self.number, self.place, self.told, self.is_serving = number, place, told, False
+    def __init__(self, number: int, place: int, pipe: int) -> None:
+        self.number, self.place, self.pipe, self.is_serving = number, place, pipe, False
         self.ending = os.pidfd_open(number)
 
     def close(self) -> None:
         os.close(self.ending)
-        os.close(self.told)
+        os.close(self.pipe)
 
 
 class Family:
     """The processes of a service, and the one that supervises them.
 
-    `make` makes the service of a process by its place, and is called in the forked process. `metrics` has the counts of all processes. `told`
-    replaces names of files by those that the user knows.
+    `make` makes the service of a process by its place, and is called in the forked process.
+    `metrics` has the counts of all processes. `translated` replaces names of files by those that
+    the user knows.
     """
 
-    def __init__(self, count: int, make: Callable[[int], Service], metrics: Metrics, port: Port, told: Callable[[str], str], has_speeds: bool = False) -> None:
-        self.count, self.make, self.metrics, self.port, self.told = count, make, metrics, port, told
+    def __init__(
+        self, count: int, make: Callable[[int], Service], metrics: Metrics, port: Port,
+        translated: Callable[[str], str], has_speeds: bool = False,
+    ) -> None:
+        self.count, self.make, self.metrics, self.port = count, make, metrics, port
+        self.translated = translated
         self.has_speeds = has_speeds
         self.children: dict[int, Child] = {}
         self.is_ending, self.status = False, 0
-        # For each place how often a process failed to serve there, and when the next one is started.
+        # For each place how often a process failed to serve there, and when the next one is
+        # started.
         self.failures, self.due = [0] * count, {place: 0.0 for place in range(count)}
         self.life, self.parent_end = os.pipe()
 
     def run(self, tell: Callable[[], object]) -> int:
-        """Starts the processes, calls `tell` when all of them serve, supervises them until a signal arrives, and returns the exit status."""
+        """Starts the processes, calls `tell` when all of them serve, supervises them until a signal
+        arrives, and returns the exit status."""
         for number in ENDING:
             signal.signal(number, self.end)
         # This signal must not end a process that doesn't handle it yet.
         signal.signal(SUCCEEDED, signal.SIG_IGN)
         if self.has_speeds:
             signal.signal(RENEWED, self.renew)
-        is_told = False
+        is_reported = False
         while self.children or not self.is_ending:
             self.begin_due()
             self.look()
-            if not is_told and not self.is_ending and sum(child.is_serving for child in self.children.values()) == self.count:
-                is_told = True
+            if (
+                not is_reported and not self.is_ending
+                and sum(child.is_serving for child in self.children.values()) == self.count
+            ):
+                is_reported = True
                 tell()
-            self.judge(is_told)
+            self.judge(is_reported)
         return self.status
 
     def judge(self, was_ready: bool) -> None:
-        """Ends the service if no process could serve at first, or if none serves and restarts fail repeatedly."""
+        """Ends the service if no process could serve at first, or if none serves and restarts fail
+        repeatedly."""
         if self.is_ending:
             return
         if not was_ready and any(self.failures):
             self.status = 1
             self.end()
-        elif min(self.failures) >= TRIES and not any(child.is_serving for child in self.children.values()):
+        elif (
+            min(self.failures) >= TRIES
+            and not any(child.is_serving for child in self.children.values())
+        ):
             LOG.error("no process could be started, %d times for each: the service ends", TRIES)
             self.status = GIVEN_UP
             self.end()
@@ -238,17 +267,17 @@ class Family:
                 self.begin(place)
 
     def begin(self, place: int) -> None:
-        """Forks a process, which never returns from here. Signals are blocked meanwhile, so that neither process misses one or handles the
-        other's."""
-        told, tell = os.pipe()
+        """Forks a process, which never returns from here. Signals are blocked meanwhile, so that
+        neither process misses one or handles the other's."""
+        reading, tell = os.pipe()
         signal.pthread_sigmask(signal.SIG_BLOCK, ENDING)
         number = os.fork()
         if number == 0:
-            os.close(told)
+            os.close(reading)
             os.close(self.parent_end)
             self.serve(place, tell)
         os.close(tell)
-        self.children[number] = Child(number, place, told)
+        self.children[number] = Child(number, place, reading)
         signal.pthread_sigmask(signal.SIG_UNBLOCK, ENDING)
         if self.is_ending:
             self.end()
@@ -264,9 +293,12 @@ class Family:
             signal.pthread_sigmask(signal.SIG_UNBLOCK, ENDING)
             # Only the first process hands the port over.
             self.port.control.close()
-            status = asyncio.run(serve(self.make(place), self.port, lambda: os.write(tell, b"."), self.life))
+            status = asyncio.run(
+                serve(self.make(place), self.port, lambda: os.write(tell, b"."), self.life))
         except BaseException as fault:
-            print(f"chtab-page: {self.told(str(fault)) or type(fault).__name__}", file=sys.stderr)
+            print(
+                f"chtab-page: {self.translated(str(fault)) or type(fault).__name__}",
+                file=sys.stderr)
         finally:
             with contextlib.suppress(Exception):
                 sys.stdout.flush()
@@ -279,15 +311,16 @@ class Family:
         for child in self.children.values():
             poll.register(child.ending, select.POLLIN)
             if not child.is_serving:
-                poll.register(child.told, select.POLLIN)
+                poll.register(child.pipe, select.POLLIN)
         left = min(self.due.values(), default=None)
-        ready = dict(poll.poll(None if left is None else max(1.0, 1000 * (left - time.monotonic()))))
+        ready = dict(
+            poll.poll(None if left is None else max(1.0, 1000 * (left - time.monotonic()))))
         if control.fileno() in ready and self.port.hand_over():
             for number in self.children:
                 os.kill(number, SUCCEEDED)
         for child in list(self.children.values()):
-            if child.told in ready and not child.is_serving:
-                child.is_serving = os.read(child.told, 1) == b"."
+            if child.pipe in ready and not child.is_serving:
+                child.is_serving = os.read(child.pipe, 1) == b"."
                 self.failures[child.place] *= not child.is_serving
             if child.ending in ready:
                 self.bury(child)
@@ -300,7 +333,8 @@ class Family:
         self.metrics.of_processes[child.place].note(waiting=0, engines=0, memory=0, connections=0)
         if self.is_ending:
             return
-        self.failures[child.place] += not child.is_serving or os.waitstatus_to_exitcode(status) == GIVEN_UP
+        self.failures[child.place] += (
+            not child.is_serving or os.waitstatus_to_exitcode(status) == GIVEN_UP)
         pause = min(PAUSE * 2 ** max(0, self.failures[child.place] - TRIES), LONGEST_PAUSE)
         self.due[child.place] = time.monotonic() + pause
         print(f"chtab-page: process {child.number} ended, and is restarted", file=sys.stderr)

@@ -21,6 +21,7 @@ from chtab._engine.stamps import stamp_of
 from chtab.errors import ChtabError, FileFault
 from chtab._files.arc_columns import MOST_WEIGHT
 from chtab._roads.snapping import NONE
+from chtab_server.weighing import weighed
 
 if TYPE_CHECKING:
     from chtab._engine.stamps import Stamp
@@ -70,8 +71,7 @@ def read_speeds(path: str) -> Speeds:
         one, other, speed = lines[place := int(numpy.argmin(is_right))].tolist()
         why = (
             f"the speed {speed:g} is no number above 0" if is_node[place]
-            else "a node is no whole number"
-        )
+            else "a node is no whole number")
         raise FileFault(f"{path}: {why}, in the line from {one:.16g} to {other:.16g}")
     starts, ends = nodes.T.astype(numpy.int64)
     return Speeds(starts, ends, speeds, stamp)
@@ -113,10 +113,10 @@ class Pieces:
         arcs = self.arcs[numpy.arange(len(lines)) - first + begins[lines]]
         metres = self.metres[arcs]
         exact = numpy.rint(metres * MILLISECONDS / given.speeds[lines])
-        whole = numpy.clip(exact, metres > 0, self.most).astype(numpy.int64)
+        rounded = numpy.clip(exact, metres > 0, self.most).astype(numpy.int64)
         weights = self.weights.copy()
         # Of several lines of one arc the last one counts.
-        weights[arcs] = whole
+        weights[arcs] = rounded
         return weights, int((counts > 0).sum())
 
     def place_of(self, nodes: Integers) -> Integers:
@@ -175,7 +175,7 @@ class Traffic:
         found = []
         for base, pieces, customizing in zip(self.bases, self.pieces, self.customizing):
             weights, count = pieces.weighed(speeds)
-            found.append(base._weighed(weights, customizing))
+            found.append(weighed(base, weights, customizing))
             lines = f"{count:,} of {len(speeds.speeds):,} lines are of roads"
             LOG.info("%s: %s", self.path, lines)
         return found, speeds.stamp[3] / 1e9

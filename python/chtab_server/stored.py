@@ -73,8 +73,7 @@ def write(path: str, sums: Mapping[str, str], kept: Made) -> None:
     texts = {
         "comments": kept.coordinates.comments, "origin": [part.hex() for part in roads.origin[:2]],
         "outs": roads.ways.outs, "reach": roads.lines.index.reach,
-        "side": None if streets is None else streets.side,
-    }
+        "side": None if streets is None else streets.side}
     # The lengths of arcs are made when they are first asked for.
     columns: dict[str, NDArray[Any]] = {"roads.lengths": roads.nanometres}
     things = roads, roads.lines, roads.lines.index, kept.crossings, kept.tiles

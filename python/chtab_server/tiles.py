@@ -1,4 +1,5 @@
-"""The roads of a network as a map: square tiles of SVG in the numbering of web maps, drawn from the graph alone."""
+"""The roads of a network as a map: square tiles of SVG in the numbering of web maps, drawn from the
+graph alone."""
 from __future__ import annotations
 
 import functools
@@ -12,18 +13,18 @@ if TYPE_CHECKING:
     from chtab._roads.snapping import Roads
     from chtab.typing import Floats, Integers
 
-# The pixels of a tile, the units of the drawing for each pixel, and how many pixels beyond its border roads are drawn.
+# The pixels of a tile, the units of the drawing for each pixel, and how many pixels beyond its
+# border roads are drawn.
 SIDE, FINE, BEYOND = 256, 4, 8
-# The kinds of roads by speed, the slowest first: the least km/h, the first zoom that shows them, their colour, border and width in pixels at zoom 14.
-# If weights are not times, all roads are of the second kind. The contrast of borders with the ground and with each band of reach is at least three to
-# one (`page/map.css` has these colours).
+# The kinds of roads by speed, the slowest first: the least km/h, the first zoom that shows them,
+# their colour, border and width in pixels at zoom 14. If weights are not times, all roads are of
+# the second kind. The contrast of borders with the ground and with each band of reach is at least
+# three to one (`page/map.css` has these colours).
 KINDS = (
-    (0, 13, "#ffffff", "#605e57", 2.0),
-    (25, 11, "#ffffff", "#605e57", 3.0),
-    (48, 9, "#ffe9a3", "#6e5210", 4.2),
-    (75, 0, "#ffc47d", "#84430b", 5.2),
-)
-# A road narrower than the first number of pixels is a line in its border's colour, at least as wide as the second; others have two borders.
+    (0, 13, "#ffffff", "#605e57", 2.0), (25, 11, "#ffffff", "#605e57", 3.0),
+    (48, 9, "#ffe9a3", "#6e5210", 4.2), (75, 0, "#ffc47d", "#84430b", 5.2))
+# A road narrower than the first number of pixels is a line in its border's colour, at least as wide
+# as the second; others have two borders.
 NARROW, LEAST, BORDER = 2.6, 1.4, 1.0
 # A tile has at most this many pieces of roads. If there are more, the slowest kinds are left out.
 MOST = 60_000
@@ -31,9 +32,11 @@ KEPT_TILES = 512
 
 
 def world(places: Floats) -> Floats:
-    """Longitudes and latitudes (n, 2) as fractions of the map's square, from its north-west corner."""
+    """Longitudes and latitudes (n, 2) as fractions of the map's square, from its north-west
+    corner."""
     x = places[:, 0] / 360 + 0.5
-    y = 0.5 - numpy.arcsinh(numpy.tan(numpy.radians(numpy.clip(places[:, 1], -85, 85)))) / (2 * numpy.pi)
+    y = 0.5 - numpy.arcsinh(numpy.tan(numpy.radians(numpy.clip(places[:, 1], -85, 85)))) / (
+        2 * numpy.pi)
     return numpy.column_stack([x, y])
 
 
@@ -47,9 +50,15 @@ class Tiles:
         kept = ~numpy.isnan(ends).any(axis=1)
         arcs, ends = arcs[kept], ends[kept]
         self.ends = numpy.hstack([world(ends[:, :2]), world(ends[:, 2:])])
-        self.low, self.high = numpy.minimum(self.ends[:, :2], self.ends[:, 2:]), numpy.maximum(self.ends[:, :2], self.ends[:, 2:])
-        metres = numpy.bincount(arcs, metres_between(*ends.T), len(roads.weights)) if len(arcs) else numpy.zeros(0)
-        speeds = metres * 3600 / numpy.maximum(roads.weights, 1) if is_timed else numpy.full(len(roads.weights), 30.0)
+        self.low, self.high = (
+            numpy.minimum(self.ends[:, :2], self.ends[:, 2:]),
+            numpy.maximum(self.ends[:, :2], self.ends[:, 2:]))
+        metres = (
+            numpy.bincount(arcs, metres_between(*ends.T), len(roads.weights)) if len(arcs)
+            else numpy.zeros(0))
+        speeds = (
+            metres * 3600 / numpy.maximum(roads.weights, 1) if is_timed
+            else numpy.full(len(roads.weights), 30.0))
         self.kinds = numpy.searchsorted([kind[0] for kind in KINDS], speeds[arcs], side="right") - 1
 
     @functools.lru_cache(KEPT_TILES)
@@ -61,7 +70,8 @@ class Tiles:
         near = (self.low * scale <= corner + 1 + margin) & (self.high * scale >= corner - margin)
         places = numpy.flatnonzero(near.all(axis=1))
         kinds = self.kinds[places]
-        first = next((kind for kind in range(len(KINDS)) if (kinds >= kind).sum() <= MOST), len(KINDS))
+        first = next(
+            (kind for kind in range(len(KINDS)) if (kinds >= kind).sum() <= MOST), len(KINDS))
         width = min(1.6, max(0.35, 1.28 ** (zoom - 14)))
         borders, roads = [], []
         for kind in range(first, len(KINDS)):
@@ -75,16 +85,19 @@ class Tiles:
                 borders.append(stroke(line, border, pixels + 2 * BORDER))
                 roads.append(stroke(line, colour, pixels))
         return "".join([
-            f'<svg xmlns="http://www.w3.org/2000/svg" width="{SIDE}" height="{SIDE}" viewBox="0 0 {SIDE * FINE} {SIDE * FINE}" ',
-            'fill="none" stroke-linecap="round" stroke-linejoin="round">', *borders, *roads, "</svg>",
-        ])
+            f'<svg xmlns="http://www.w3.org/2000/svg" width="{SIDE}" height="{SIDE}" viewBox="0 0 '
+            f'{SIDE * FINE} {SIDE * FINE}" ',
+            'fill="none" stroke-linecap="round" stroke-linejoin="round">', *borders, *roads,
+            "</svg>"])
 
     def line(self, places: Integers, scale: float, corner: Integers) -> str:
         """These pieces of roads as an SVG path, in the units of a tile."""
-        ends = numpy.round((self.ends[places] * scale - numpy.tile(corner, 2)) * SIDE * FINE).astype(int)
+        ends = numpy.round(
+            (self.ends[places] * scale - numpy.tile(corner, 2)) * SIDE * FINE).astype(int)
         ends = numpy.unique(ends, axis=0).tolist() if len(ends) else []
         return svg.path([((a, b), (c, d)) for a, b, c, d in ends])
 
 
 def stroke(line: str, colour: str, pixels: float) -> str:
-    return f'<path d="{line}" stroke="{colour}" stroke-width="{pixels * FINE:.1f}"/>' if line else ""
+    return (
+        f'<path d="{line}" stroke="{colour}" stroke-width="{pixels * FINE:.1f}"/>' if line else "")

@@ -1,5 +1,5 @@
-"""The headers for browsers: what a page may load and run, which addresses browsers may pass on, and which pages of other sites may ask (CORS, by the
-Fetch standard of WHATWG).
+"""The headers for browsers: what a page may load and run, which addresses browsers may pass on, and
+which pages of other sites may ask (CORS, by the Fetch standard of WHATWG).
 """
 from __future__ import annotations
 
@@ -30,24 +30,27 @@ REMEMBERED = 86_400
 
 
 def tile_sources(tiles: str | None) -> list[str]:
-    """The servers of a layer of map tiles, as a policy names them; none if there is no layer, or if it is the service's own. Raises a `ChtabError`
-    for an address without a server."""
+    """The servers of a layer of map tiles, as a policy names them; none if there is no layer, or if
+    it is the service's own. Raises a `ChtabError` for an address without a server."""
     if tiles is None or not ABSOLUTE.match(tiles):
         return []
     addresses = [tiles.replace("{s}", letter) for letter in LETTERS] if "{s}" in tiles else [tiles]
     found = [SERVER.match(address) for address in addresses]
     if None in found:
-        raise ChtabError(f"{tiles} is not the address of map tiles, as https://tile.example.org/{{z}}/{{x}}/{{y}}.png")
+        raise ChtabError(
+            f"{tiles} is not the address of map tiles, as "
+            f"https://tile.example.org/{{z}}/{{x}}/{{y}}.png")
     return [server[1] for server in found if server]
 
 
 def headers(tiles: str | None) -> dict[str, str]:
-    """The headers of each answer, for a page with this layer of map tiles or None. Only scripts that are served as files run."""
+    """The headers of each answer, for a page with this layer of map tiles or None. Only scripts
+    that are served as files run."""
     images = " ".join(["'self'", "data:", *tile_sources(tiles)])
     policy = {
-        "default-src": "'none'", "script-src": "'self'", "style-src": "'self'", "img-src": images, "connect-src": "'self'",
-        "base-uri": "'none'", "form-action": "'none'", "frame-ancestors": "'none'",
-    }
+        "default-src": "'none'", "script-src": "'self'", "style-src": "'self'", "img-src": images,
+        "connect-src": "'self'", "base-uri": "'none'", "form-action": "'none'",
+        "frame-ancestors": "'none'"}
     return {
         "Content-Security-Policy": "; ".join(f"{name} {value}" for name, value in policy.items()),
         "X-Content-Type-Options": "nosniff",
@@ -74,8 +77,11 @@ def is_open(request: web.BaseRequest) -> bool:
     return request.path.startswith(OPEN_TO_OTHERS) or is_osrm(request.path)
 
 
-def allower(origins: Collection[str]) -> Callable[[web.BaseRequest, web.StreamResponse], None] | None:
-    """A function of a request and its answer, which allows the answer for one of these origins; `*` stands for all. None if there are no origins."""
+def allower(
+    origins: Collection[str],
+) -> Callable[[web.BaseRequest, web.StreamResponse], None] | None:
+    """A function of a request and its answer, which allows the answer for one of these origins; `*`
+    stands for all. None if there are no origins."""
     def allow(request: web.BaseRequest, response: web.StreamResponse) -> None:
         if not is_open(request):
             return
@@ -97,6 +103,9 @@ def is_preflight(request: web.BaseRequest) -> bool:
 
 def preflight(request: web.BaseRequest) -> web.Response:
     """The answer to such a request."""
-    return web.Response(status=204, headers={
-        "Access-Control-Allow-Methods": "GET, POST", "Access-Control-Allow-Headers": "Content-Type", "Access-Control-Max-Age": str(REMEMBERED),
-    })
+    return web.Response(
+        status=204,
+        headers={
+            "Access-Control-Allow-Methods": "GET, POST",
+            "Access-Control-Allow-Headers": "Content-Type",
+            "Access-Control-Max-Age": str(REMEMBERED)})

@@ -125,7 +125,13 @@ def on_cluster(
                     tasks.begin(block, cells_of, setting, block, choices.within)
                 yield from tasks
         finally:
-            client.run(cluster.close_on_worker, on_error="ignore")
+            client.run(close_on_worker, on_error="ignore")
+
+
+def close_on_worker(dask_worker: Any) -> None:
+    """Closes the networks that a worker keeps."""
+    for engine in dask_worker.__dict__.pop(cluster.KEPT, {}).values():
+        engine.close()
 
 
 def make(setting: Setting, sources: Any, targets: Any, out: Path, choices: Choices) -> int:

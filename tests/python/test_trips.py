@@ -309,7 +309,7 @@ def spots_and_arcs(draw, network, pieces, found):
         own = [number for number, ends in enumerate(named) if ends == tuple(sorted((first, last)))]
         if len(own) == 1 and first != last and not any(copy for _, copy in pieces[own[0]][1]):
             for part in 0.0, draw.uniform(0.1, 0.9):
-                places.append((road, part, tuple(roads.stretch(road, part, part)[0].tolist())))
+                places.append((road, part, tuple(roads.lines.stretch(road, part, part)[0].tolist())))
                 ways.append((own[0], first))
     if not places:
         return None, []

@@ -78,9 +78,3 @@ def on_worker(call: Callable[..., Any], setting: Setting, words: tuple[Any, ...]
         if setting not in kept:
             kept[setting] = InProcess(setting)
     return call(kept[setting], *words)
-
-
-def close_on_worker(dask_worker: Any) -> None:
-    """Closes the networks that a worker keeps."""
-    for engine in dask_worker.__dict__.pop(KEPT, {}).values():
-        engine.close()

@@ -1,9 +1,7 @@
 """The order of a network in which new weights on its arcs take little time."""
 from __future__ import annotations
 
-import contextlib
-import os
-import secrets
+import pathlib
 import threading
 from typing import TYPE_CHECKING
 
@@ -11,6 +9,7 @@ import numpy
 
 from chtab._engine import forks, library
 from chtab._engine.interruptible import LONG, interruptible
+from chtab._files.forms import whole
 
 if TYPE_CHECKING:
     import ctypes
@@ -19,21 +18,8 @@ if TYPE_CHECKING:
 
 
 class Customizing:
-    """A topology of the arcs of a network, which each process opens once, with the first call that
-    needs it.
-
-    Parameters
-    ----------
-    calls : ctypes.CDLL
-        The calls of the library.
-    nodes : int
-        The number of nodes.
-    tails, heads : array of int, shape (m,)
-        The ends of the arcs, nodes from 1 on.
-    order : bytes or str, optional
-        The lines that name the order of the nodes, as those of a saved hierarchy, or the path of
-        their file. By default the library finds a nested dissection order.
-    """
+    """A topology of the arcs from `tails` to `heads`, nodes from 1 on, opened once by each process.
+    `order`: its lines, or the path of their file; None: a nested dissection order."""
 
     def __init__(
         self, calls: ctypes.CDLL, nodes: int, tails: Integers, heads: Integers,
@@ -50,8 +36,7 @@ class Customizing:
         self.topology: library.Topology | None = None
 
     def opened(self) -> library.Topology:
-        """The topology. Raises a `ProgramFault` if the order is refused, and a `DataFault` if new
-        weights would take too long in it."""
+        """The topology. An order that is refused is a `ProgramFault`, a slow one a `DataFault`."""
         with self.lock:
             if self.topology is None:
                 topology = library.Topology(self.calls)
@@ -62,18 +47,15 @@ class Customizing:
 
     def given(self) -> bytes | None:
         """The lines of the order."""
-        if not isinstance(self.order, str):
-            return self.order
-        with open(self.order, "rb") as file:
-            return file.read()
+        order = self.order
+        return pathlib.Path(order).read_bytes() if isinstance(order, str) else order
 
     def lines(self) -> bytes:
         """The lines that name the order of the topology, for a file."""
         return lines_of(self.opened().order(self.nodes).astype(numpy.int64) + 1)
 
     def handle(self, weights: Integers) -> library.Handle:
-        """A handle in the network of these arcs with other weights, of which there is one for each
-        arc. Other threads may call meanwhile."""
+        """A handle in the network of these arcs with a weight for each."""
         shared, handle = self.opened().share(), library.Handle(self.calls)
         unsigned = numpy.asarray(weights).astype(numpy.uint64, order="C")
         interruptible(LONG, handle.customized, shared, unsigned)
@@ -86,16 +68,9 @@ class Customizing:
         return Customizing(self.calls, self.nodes, tails, heads, self.lines())
 
     def keep(self, path: str) -> None:
-        """Writes the order into a file. It has its name once it is whole."""
-        part = f"{path}.part-{secrets.token_hex(8)}"
-        try:
-            with open(part, "wb") as file:
-                file.write(self.lines())
-            os.replace(part, path)
-        except BaseException:
-            with contextlib.suppress(OSError):
-                os.remove(part)
-            raise
+        """Writes the order into a file, which has its name once it is complete."""
+        with whole(path) as part:
+            pathlib.Path(part).write_bytes(self.lines())
 
 
 def lines_of(nodes: Integers) -> bytes:

@@ -67,13 +67,11 @@ class Flows:
 
 
 class InProcess:
-    """Answers questions about nodes, which count from 1, of threads and forked processes.
+    """Answers questions about nodes, which count from 1, of threads and forked processes."""
 
-    The first question of a thread makes a handle for it, on the one network in memory. The first
-    handle opens it, and belongs to the first thread that asks, or after its end to the next new
-    one. A forked process opens the network anew, and leaves the handles of its parent alone.
-    """
-
+    # The first question of a thread makes a handle for it, on the one network in memory. The first
+    # handle opens it, and belongs to the first thread that asks, or after its end to the next new
+    # one. A forked process opens the network anew, and leaves the handles of its parent alone.
     # Tails, heads and weights of arcs go to the library in place of the graph's file.
     def __init__(self, setting: Setting, arcs: Sequence[Integers] | None = None) -> None:
         for path in setting.files():
@@ -148,8 +146,7 @@ class InProcess:
             return contents_of(path)
 
     def opened_like(self, graph: bytes, fresh: int) -> library.Handle:
-        """A handle in the network of another graph, built in the order of this one's, of which the
-        last `fresh` per cent of the nodes are ordered afresh. This one goes on answering."""
+        """A handle in the network of another graph, built in the order of this one's."""
         giver, handle = self.first_handle().share(), library.Handle(self.calls)
         # The giver is closed when the call ends, also where the wait for it is broken off.
         interruptible(LONG, handle.open_like, graph, giver, fresh)
@@ -166,17 +163,14 @@ class InProcess:
         """The handle of the current thread."""
         self.see_that_open()
         if self.of_thread.handle is None:
-            self.of_thread.handle = self.handle_of_new_thread()
+            with self.lock:
+                first = self.first_handle()
+                # A new thread has the first handle if no living one has it, and else a further one.
+                is_free = self.asker is None or not self.asker.is_alive()
+                if is_free:
+                    self.asker = threading.current_thread()
+            self.of_thread.handle = first if is_free else self.another(first)
         return self.of_thread.handle
-
-    def handle_of_new_thread(self) -> library.Handle:
-        """The first handle, if no living thread has it, and otherwise a further one."""
-        with self.lock:
-            first = self.first_handle()
-            if self.asker is None or not self.asker.is_alive():
-                self.asker = threading.current_thread()
-                return first
-        return self.another(first)
 
     def another(self, first: library.Handle) -> library.Handle:
         """Makes a further handle, without a lock while it waits for a call of the first one."""
@@ -190,7 +184,11 @@ class InProcess:
     @contextlib.contextmanager
     def lent_handle(self) -> Iterator[library.Handle]:
         """Lends a handle to a question of another thread or on near rows, and frees its places."""
-        handle = self.spare_handle()
+        self.see_that_open()
+        with self.lock:
+            first = self.first_handle()
+            handle = self.spare.pop() if self.spare else None
+        handle = handle or self.another(first)
         # A process that is forked meanwhile has a list of its own, and this handle stays with its
         # parent.
         spare = self.spare
@@ -199,19 +197,6 @@ class InProcess:
         with contextlib.suppress(ChtabError):
             handle.keep_places(NO_PLACES)
             spare.append(handle)
-
-    def spare_handle(self) -> library.Handle:
-        """A handle that no question uses."""
-        self.see_that_open()
-        with self.lock:
-            first = self.first_handle()
-            if self.spare:
-                return self.spare.pop()
-        return self.another(first)
-
-    def living(self) -> int:
-        """1 if the network is open in this process, and 0 otherwise."""
-        return int(self.first is not None)
 
     def close(self) -> None:
         """Closes all handles, each once its call has ended; questions with more calls fail."""
@@ -296,10 +281,11 @@ class InProcess:
         self, rows: int, columns: int, call: Callable[[library.Handle, tuple[slice, slice]], None],
         name: str, progress: Asked = None,
     ) -> None:
-        """Calls for blocks of a table, which are slices of rows and of columns, until all cells are
-        done."""
+        """Calls for blocks of a table, slices of rows and of columns, until all are done."""
         side = SIDE if self.setting.timeout is None else SHORT
-        height, width = self.height_of(rows, columns, side), max(1, min(columns, side))
+        # Several threads have a part each.
+        shares = max(1, min(self.setting.workers, rows * columns // WORTH))
+        height, width = max(1, min(side, -(-rows // shares))), max(1, min(columns, side))
         across = -(-columns // width)
 
         def ask(handle: library.Handle, part: slice) -> None:
@@ -308,11 +294,6 @@ class InProcess:
                 call(handle, (slice(row, row + height), slice(column, column + width)))
 
         self.in_parts(-(-rows // height) * across, 1, ask, name, "blocks", progress, height + width)
-
-    def height_of(self, rows: int, columns: int, side: int) -> int:
-        """How many rows of a table are made together, so that several threads have a part of it."""
-        shares = max(1, min(self.setting.workers, rows * columns // WORTH))
-        return max(1, min(side, -(-rows // shares)))
 
     def paths(self, pairs: Integers, progress: Asked = None) -> Paths:
         """The routes of pairs of nodes, an array (n, 2)."""
@@ -325,7 +306,9 @@ class InProcess:
                 some = sources[start:part.stop], targets[start:part.stop]
                 weights, ends, _, lines = handle.routes_with_lines(*some, self.room)
                 if not len(weights):
-                    self.make_room()
+                    if self.room >= max(self.nodes, ROOM):
+                        raise mismatch()
+                    self.room = 2 * self.room
                 arcs = lines[lines != library.NO_LINE]
                 made.append((start, (weights, numpy.diff(ends, prepend=0), arcs)))
                 start += len(weights)
@@ -340,8 +323,7 @@ class InProcess:
     def sums(
         self, pairs: Integers, values: NDArray[numpy.uint64],
     ) -> tuple[Integers, NDArray[numpy.uint64]]:
-        """The weights of the routes of pairs, -1 for no walk, and the sums of the values of their
-        arcs, 0 for no walk. A sum of 2^64 is refused."""
+        """The weights of routes, -1 for no walk, and the sums of their values; 2^64 is refused."""
         sources, targets = self.columns(pairs)
         weights, sums = (
             numpy.empty(len(sources), numpy.int64), numpy.empty(len(sources), numpy.uint64))
@@ -355,8 +337,7 @@ class InProcess:
     def flows(
         self, pairs: Integers, demands: NDArray[numpy.uint64], lines: int, progress: Asked = None,
     ) -> tuple[int, NDArray[numpy.uint64]]:
-        """How many pairs have no walk, and for each of the `lines` of the graph the sum of the
-        demands, below 2^63 in all, of the pairs whose routes take it."""
+        """How many pairs have no walk, and the flow on each of the `lines` of the graph."""
         (sources, targets), total = self.columns(pairs), Flows(lines)
 
         def ask(handle: library.Handle, part: slice) -> None:
@@ -375,13 +356,7 @@ class InProcess:
 
         def ask(handle: library.Handle, some: tuple[slice, slice]) -> None:
             cells = numpy.ascontiguousarray(demands[some]).reshape(-1)
-            total.add(handle.flows_table(rows[some[0]], columns[some[1]], cells, lines))
+            total.add(handle.flows(rows[some[0]], columns[some[1]], cells, lines, True))
 
         self.in_blocks(len(rows), len(columns), ask, "flows", progress)
         return total.missed, total.flows
-
-    def make_room(self) -> None:
-        """Makes twice as much room for the nodes of routes."""
-        if self.room >= max(self.nodes, ROOM):
-            raise mismatch()
-        self.room = 2 * self.room

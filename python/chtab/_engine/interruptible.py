@@ -19,7 +19,6 @@ LONG = 1 << 8
 # start, or to report its end.
 PATIENCE = 1.0
 
-
 Value = TypeVar("Value")
 
 

@@ -28,25 +28,27 @@ if TYPE_CHECKING:
 VERSION = 1_003_000
 NAME = "libchtab.so.1"
 # The statuses of calls, as in `chtab_status` of the header.
-OK, NO_MEMORY, CLOSED, IS_OPEN, NODE_RANGE, LENGTHS, TOO_LARGE, TOO_SHORT, BAD_GRAPH, BAD_SAVED, WRONG_SAVED, NO_PLACES, SUM_TOO_LARGE, \
-    OTHER_NODES, FRESH_RANGE, TRIANGLES = range(16)
-# The limit that excludes no distance, and the distance where there is no walk, which is -1 as a signed number of 64 bits.
+(
+    OK, NO_MEMORY, CLOSED, IS_OPEN, NODE_RANGE, LENGTHS, TOO_LARGE, TOO_SHORT, BAD_GRAPH, BAD_SAVED,
+    WRONG_SAVED, NO_PLACES, SUM_TOO_LARGE, OTHER_NODES, FRESH_RANGE, TRIANGLES,
+) = range(16)
+# The limit that excludes no distance, and the distance where there is no walk, which is -1 as a
+# signed number of 64 bits.
 NO_LIMIT = NO_DISTANCE = 2**64 - 1
-# The number of places of a near row that excludes none, and the line for a node that no arc leads to.
+# The number of places of a near row that excludes none, and the line for a node that no arc leads
+# to.
 ALL = NO_LINE = 2**32 - 1
 # The faults of files, by the number of `chtab_fault_kind`, in the words of the program.
 KINDS = (
-    "", "unknown line", "bad problem line", "second problem line", "no problem line", "bad line", "node out of range", "weight too large",
-    "size too large", "too many lines", "too few lines", "order", "pair", "bound", "base", "middle", "arc", "lower",
-)
+    "", "unknown line", "bad problem line", "second problem line", "no problem line", "bad line",
+    "node out of range", "weight too large", "size too large", "too many lines", "too few lines",
+    "order", "pair", "bound", "base", "middle", "arc", "lower")
 GONE = "the network is closed"
 DENSE = (
     "the network has more than 40 triangles a node in this order, so that its weights can't be "
-    "customized in little time"
-)
+    "customized in little time")
 # Up to this many pairs are asked for without arrays.
 FEW = 16
-
 
 # Nodes as the library counts them, from 0 on; and unsigned numbers.
 Nodes: TypeAlias = "NDArray[numpy.uint32]"
@@ -80,48 +82,40 @@ class Found(ctypes.Structure):
 
 ARRAY = ctypes.c_void_p, ctypes.c_size_t
 HANDLE, TOPOLOGY = ctypes.POINTER(Block), ctypes.POINTER(TopologyBlock)
+NUMBER_32, NUMBER_64, TEXT = ctypes.c_uint32, ctypes.c_uint64, (ctypes.c_char_p, ctypes.c_size_t)
+COUNT, FAULT = ctypes.POINTER(NUMBER_64), ctypes.POINTER(Fault)
 # The arguments of each call. `CDLL` lets other threads run during a call.
 CALLS = {
-    "chtab_open": (HANDLE, ctypes.c_char_p, ctypes.c_size_t, ctypes.c_char_p, ctypes.c_size_t, ctypes.POINTER(Fault)),
-    "chtab_open_arrays": (
-        HANDLE, ctypes.c_uint32, *ARRAY, *ARRAY, *ARRAY, ctypes.c_char_p, ctypes.c_size_t,
-        ctypes.POINTER(Fault),
-    ),
-    "chtab_open_quick": (HANDLE, ctypes.c_char_p, ctypes.c_size_t, ctypes.POINTER(Fault)),
-    "chtab_open_like": (HANDLE, ctypes.c_char_p, ctypes.c_size_t, HANDLE, ctypes.c_uint32, ctypes.POINTER(Fault)),
-    "chtab_topology_open": (
-        TOPOLOGY, ctypes.c_char_p, ctypes.c_size_t, ctypes.c_char_p, ctypes.c_size_t,
-        ctypes.POINTER(Fault),
-    ),
-    "chtab_topology_open_arrays": (
-        TOPOLOGY, ctypes.c_uint32, *ARRAY, *ARRAY, ctypes.c_char_p, ctypes.c_size_t,
-        ctypes.POINTER(Fault),
-    ),
+    "chtab_open": (HANDLE, *TEXT, *TEXT, FAULT),
+    "chtab_open_arrays": (HANDLE, NUMBER_32, *ARRAY, *ARRAY, *ARRAY, *TEXT, FAULT),
+    "chtab_open_quick": (HANDLE, *TEXT, FAULT),
+    "chtab_open_like": (HANDLE, *TEXT, HANDLE, NUMBER_32, FAULT),
+    "chtab_topology_open": (TOPOLOGY, *TEXT, *TEXT, FAULT),
+    "chtab_topology_open_arrays": (TOPOLOGY, NUMBER_32, *ARRAY, *ARRAY, *TEXT, FAULT),
     "chtab_topology_share": (TOPOLOGY, TOPOLOGY),
     "chtab_topology_order": (TOPOLOGY, *ARRAY),
     "chtab_topology_close": (TOPOLOGY,),
-    "chtab_customized": (HANDLE, TOPOLOGY, *ARRAY, ctypes.POINTER(Fault)),
+    "chtab_customized": (HANDLE, TOPOLOGY, *ARRAY, FAULT),
     "chtab_share": (HANDLE, HANDLE),
     "chtab_close": (HANDLE,),
-    "chtab_nodes": (HANDLE, ctypes.POINTER(ctypes.c_uint32)),
-    "chtab_save": (HANDLE, ctypes.POINTER(ctypes.c_uint64), *ARRAY),
+    "chtab_nodes": (HANDLE, ctypes.POINTER(NUMBER_32)),
+    "chtab_save": (HANDLE, COUNT, *ARRAY),
     "chtab_distances": (HANDLE, *ARRAY, *ARRAY, *ARRAY),
-    "chtab_table": (HANDLE, *ARRAY, *ARRAY, ctypes.c_uint64, *ARRAY),
-    "chtab_route": (HANDLE, ctypes.c_uint32, ctypes.c_uint32, ctypes.POINTER(Found), *ARRAY),
-    "chtab_routes": (HANDLE, *ARRAY, *ARRAY, ctypes.POINTER(ctypes.c_uint64), *ARRAY, *ARRAY, *ARRAY, *ARRAY),
-    "chtab_route_sums": (HANDLE, *ARRAY, *ARRAY, *ARRAY, ctypes.POINTER(ctypes.c_uint64), *ARRAY, *ARRAY),
-    "chtab_flows_table": (HANDLE, *ARRAY, *ARRAY, *ARRAY, ctypes.POINTER(ctypes.c_uint64), *ARRAY),
-    "chtab_flows": (HANDLE, *ARRAY, *ARRAY, *ARRAY, ctypes.POINTER(ctypes.c_uint64), *ARRAY),
-    "chtab_near_places": (HANDLE, ctypes.c_uint32, *ARRAY, ctypes.c_uint64, ctypes.c_uint32),
+    "chtab_table": (HANDLE, *ARRAY, *ARRAY, NUMBER_64, *ARRAY),
+    "chtab_route": (HANDLE, NUMBER_32, NUMBER_32, ctypes.POINTER(Found), *ARRAY),
+    "chtab_routes": (HANDLE, *ARRAY, *ARRAY, COUNT, *ARRAY, *ARRAY, *ARRAY, *ARRAY),
+    "chtab_route_sums": (HANDLE, *ARRAY, *ARRAY, *ARRAY, COUNT, *ARRAY, *ARRAY),
+    "chtab_flows_table": (HANDLE, *ARRAY, *ARRAY, *ARRAY, COUNT, *ARRAY),
+    "chtab_flows": (HANDLE, *ARRAY, *ARRAY, *ARRAY, COUNT, *ARRAY),
+    "chtab_near_places": (HANDLE, NUMBER_32, *ARRAY, NUMBER_64, NUMBER_32),
     "chtab_near_sweep": (HANDLE,),
-    "chtab_near_rows": (HANDLE, *ARRAY, ctypes.POINTER(ctypes.c_uint64), *ARRAY, *ARRAY, *ARRAY),
-    "chtab_near_sums": (HANDLE, *ARRAY, *ARRAY, *ARRAY, ctypes.POINTER(ctypes.c_uint64), *ARRAY),
+    "chtab_near_rows": (HANDLE, *ARRAY, COUNT, *ARRAY, *ARRAY, *ARRAY),
+    "chtab_near_sums": (HANDLE, *ARRAY, *ARRAY, *ARRAY, COUNT, *ARRAY),
 }
 
 
 def beside(program: str) -> str | None:
-    """The library beside a program, of a wheel, of `packaging/library` unless sources are newer, or
-    where `./install` puts it; None if there is none."""
+    """The library beside a program, or where `packaging/library` or `./install` puts it."""
     folder = os.path.dirname(os.path.realpath(program))
     places = [folder] if os.path.basename(folder) != "chtab" else [folder, os.path.dirname(folder)]
     found = [
@@ -146,8 +140,7 @@ def is_up_to_date(made: str, checkout: str) -> bool:
 
 @functools.cache
 def loaded(path: str) -> ctypes.CDLL:
-    """The calls of the library at a path. Raises a `ChtabError` if it can't be loaded, or has
-    another version."""
+    """The calls of the library at a path; a `ChtabError` if it is none of this version."""
     try:
         with forks.STEADY:
             calls = ctypes.CDLL(path)
@@ -192,8 +185,7 @@ def written(array: NDArray[Any], kind: DTypeLike) -> tuple[int, int]:
 
 
 def nodes_of(numbers: ArrayLike, count: int) -> Nodes:
-    """The nodes of numbers from 1 to `count`, as the library counts them from 0 on: uint32,
-    contiguous. Any other number is refused."""
+    """The nodes of numbers from 1 to `count` as the library has them, uint32 from 0 on."""
     numbers = numpy.asarray(numbers)
     if numbers.dtype != numpy.int64:
         if numbers.size and numbers.dtype.kind not in "iu":
@@ -220,124 +212,25 @@ def close(call: Callable[[Any], int], block: Block | TopologyBlock, owner: int) 
         call(ctypes.byref(block))
 
 
-class Handle:
-    """A network in this process, with scratch space for one question at a time, for which threads
-    wait. It is closed by `close`, and when it is no longer used."""
+class Opened:
+    """What the library keeps in this process until it is closed, with one call at a time."""
 
-    def __init__(self, calls: ctypes.CDLL) -> None:
-        self.calls, self.block, self.lock = calls, Block(), threading.RLock()
-        self.at = ctypes.byref(self.block)
-        # Scratch space for few distances, for one question at a time.
-        self.sources, self.targets = (ctypes.c_uint32 * FEW)(), (ctypes.c_uint32 * FEW)()
-        self.weights = (ctypes.c_int64 * FEW)()
-        rooms: tuple[Any, ...] = (self.sources, self.targets, self.weights)
-        self.rooms = [ctypes.addressof(room) for room in rooms]
-        self.is_asked = False
-        # From here on the handle is closed, whatever breaks this off, but not at the end of the
+    def __init__(
+        self, calls: ctypes.CDLL, block: Block | TopologyBlock, closing: Callable[[Any], int],
+    ) -> None:
+        self.calls, self.block, self.lock, self.closing = calls, block, threading.RLock(), closing
+        self.at = ctypes.byref(block)
+        # From here on it is closed, whatever breaks this off, but not at the end of the
         # interpreter, when threads may still be in a call.
-        weakref.finalize(self, close, calls.chtab_close, self.block, os.getpid()).atexit = False
+        weakref.finalize(self, close, closing, block, os.getpid()).atexit = False
 
     def __reduce__(self) -> NoReturn:
-        raise TypeError("a handle is neither copied nor pickled")
-
-    def open(self, graph: bytes, saved: bytes | None = None) -> None:
-        """Opens the network of a graph and its saved hierarchy, the bytes of both files. Without
-        `saved` the library builds one. A file that is refused is a `ProgramFault`."""
-        if type(graph) is not bytes or saved is not None and type(saved) is not bytes:
-            raise TypeError("files are bytes")
-        given, fault = given_bytes(saved), Fault()
-        with self.lock:
-            if saved is None:
-                status = self.calls.chtab_open_quick(
-                    self.at, graph, len(graph), ctypes.byref(fault))
-            else:
-                words = graph, len(graph), given, len(given), ctypes.byref(fault)
-                status = self.calls.chtab_open(self.at, *words)
-        see_that_opened(status, fault, saved)
-
-    def open_arrays(
-        self, nodes: int, tails: Nodes, heads: Nodes, weights: Unsigned, saved: bytes | None = None,
-    ) -> None:
-        """Does the same for a graph in columns: arc k leads from `tails[k]` to `heads[k]`, nodes
-        from 0 on, and weighs `weights[k]`."""
-        if saved is not None and type(saved) is not bytes:
-            raise TypeError("files are bytes")
-        are_long = len(tails) == len(heads) == len(weights)
-        if type(nodes) is not int or not 0 <= nodes < 2**32 or not are_long:
-            raise ValueError("a graph has a number of nodes, and columns of one length")
-        columns = column(tails, NODE), column(heads, NODE), column(weights, NUMBER)
-        given, fault = given_bytes(saved), Fault()
-        words = nodes, *columns, given, len(given), ctypes.byref(fault)
-        status = self.ask(self.calls.chtab_open_arrays, *words)
-        see_that_opened(status, fault, saved)
-
-    def open_like(self, graph: bytes, other: Handle, fresh: int) -> None:
-        """Opens the network of a graph with as many nodes as that of another handle, whose hierarchy is built in the order of that one's. Only the
-        last `fresh` per cent of the nodes, from 0 to 100, are ordered afresh. The other handle can't be asked meanwhile, and keeps its network.
-
-        What is wrong with the graph is a `ProgramFault`, and another number of nodes a `ValueError`.
-        """
-        if type(graph) is not bytes:
-            raise TypeError("files are bytes")
-        if other is self or not 0 <= fresh < 2**32:
-            raise ValueError("a network is opened in the order of another handle, with a per cent from 0 to 100 afresh")
-        fault = Fault()
-        # In one order, so that two calls never wait for each other.
-        first, second = sorted((self.lock, other.lock), key=id)
-        with first, second:
-            status = self.calls.chtab_open_like(self.at, graph, len(graph), other.at, fresh, ctypes.byref(fault))
-        if status:
-            raise fault_of(status, fault)
-
-    def customized(self, topology: Topology, weights: Unsigned) -> None:
-        """Opens the network of the arcs of a topology where arc k weighs `weights[k]`, a column of
-        uint64. The topology can't be asked meanwhile, and stays as it is.
-
-        Raises a `ProgramFault` if a weight is too large, and a `ValueError` if there is not one for
-        each arc.
-        """
-        fault, given = Fault(), (address(weights, numpy.uint64), len(weights))
-        with topology.lock, self.lock:
-            status = self.calls.chtab_customized(self.at, topology.at, *given, ctypes.byref(fault))
-        if status:
-            raise fault_of(status, fault)
-
-    def share(self) -> Handle:
-        """Makes another handle on the same network, for another thread."""
-        other = Handle(self.calls)
-        with self.lock:
-            status = self.calls.chtab_share(self.at, other.at)
-        see_that_done(status)
-        return other
+        raise TypeError(f"a {type(self).__name__.lower()} is neither copied nor pickled")
 
     def close(self) -> None:
-        """Closes the handle, once the call that is under way has ended. Further calls are
-        refused."""
+        """Closes it, once the call that is under way has ended. Further calls are refused."""
         with self.lock:
-            self.calls.chtab_close(self.at)
-
-    def nodes(self) -> int:
-        """How many nodes the network has."""
-        count = ctypes.c_uint32()
-        with self.lock:
-            see_that_done(self.calls.chtab_nodes(self.at, ctypes.byref(count)))
-        return count.value
-
-    def save(self, room: int = 0) -> bytes:
-        """The hierarchy, the bytes that `chtab save` writes for it. They are made once if they fit
-        into a room of so many bytes, and otherwise twice."""
-        size, text = ctypes.c_uint64(), numpy.empty(room, numpy.uint8)
-        with self.lock:
-            status = self.write_text(size, text)
-            if status == TOO_SHORT:
-                text = numpy.empty(size.value, numpy.uint8)
-                status = self.write_text(size, text)
-        see_that_done(status)
-        return text[:size.value].tobytes()
-
-    def write_text(self, size: ctypes.c_uint64, text: NDArray[numpy.uint8]) -> int:
-        return self.calls.chtab_save(
-            self.at, ctypes.byref(size), address(text, numpy.uint8, True), len(text))
+            self.closing(self.at)
 
     def ask(self, call: Callable[..., int], *given: Any) -> int:
         """Makes a call with numbers and columns, each an address and a length; its status."""
@@ -345,17 +238,94 @@ class Handle:
         with self.lock:
             return call(self.at, *words)
 
+
+class Handle(Opened):
+    """A network in this process, with scratch space for one question."""
+
+    def __init__(self, calls: ctypes.CDLL) -> None:
+        super().__init__(calls, Block(), calls.chtab_close)
+        # Scratch space for few distances, for one question at a time.
+        self.sources, self.targets = (ctypes.c_uint32 * FEW)(), (ctypes.c_uint32 * FEW)()
+        self.weights = (ctypes.c_int64 * FEW)()
+        rooms: tuple[Any, ...] = (self.sources, self.targets, self.weights)
+        self.rooms = [ctypes.addressof(room) for room in rooms]
+        self.is_asked = False
+
+    def open(self, graph: bytes, saved: bytes | None = None) -> None:
+        """Opens the network of a graph and a saved hierarchy, or of one that the library builds."""
+        given, fault = (text_of(graph), saved_text(saved)), Fault()
+        if saved is None:
+            status = self.ask(self.calls.chtab_open_quick, given[0], ctypes.byref(fault))
+        else:
+            status = self.ask(self.calls.chtab_open, *given, ctypes.byref(fault))
+        see_that_opened(status, fault, saved)
+
+    def open_arrays(
+        self, nodes: int, tails: Nodes, heads: Nodes, weights: Unsigned, saved: bytes | None = None,
+    ) -> None:
+        """Does the same for arcs from `tails` to `heads`, nodes from 0 on, that weigh `weights`."""
+        given, fault = saved_text(saved), Fault()
+        columns = *ends_of(nodes, tails, heads, len(weights)), column(weights, NUMBER)
+        status = self.ask(self.calls.chtab_open_arrays, nodes, *columns, given, ctypes.byref(fault))
+        see_that_opened(status, fault, saved)
+
+    def open_like(self, graph: bytes, other: Handle, fresh: int) -> None:
+        """Opens the network of a graph in the order of another handle's, `fresh` per cent anew."""
+        given, fault = text_of(graph), Fault()
+        if other is self or not 0 <= fresh < 2**32:
+            raise ValueError(
+                "a network is opened in the order of another handle, with a per cent from 0 to 100 "
+                "afresh")
+        # In one order, so that two calls never wait for each other.
+        first, second = sorted((self.lock, other.lock), key=id)
+        with first, second:
+            status = self.ask(
+                self.calls.chtab_open_like, given, other.at, fresh, ctypes.byref(fault))
+        if status:
+            raise fault_of(status, fault)
+
+    def customized(self, topology: Topology, weights: Unsigned) -> None:
+        """Opens the network of the arcs of a topology, where arc k weighs `weights[k]`."""
+        fault, given = Fault(), column(weights, NUMBER)
+        with topology.lock:
+            status = self.ask(self.calls.chtab_customized, topology.at, given, ctypes.byref(fault))
+        if status:
+            raise fault_of(status, fault)
+
+    def share(self) -> Handle:
+        """Makes another handle on the same network, for another thread."""
+        other = Handle(self.calls)
+        see_that_done(self.ask(self.calls.chtab_share, other.at))
+        return other
+
+    def nodes(self) -> int:
+        """How many nodes the network has."""
+        count = ctypes.c_uint32()
+        see_that_done(self.ask(self.calls.chtab_nodes, ctypes.byref(count)))
+        return count.value
+
+    def save(self, room: int = 0) -> bytes:
+        """The text of the hierarchy; it is made twice if it has more than `room` bytes."""
+        size = ctypes.c_uint64(room)
+        with self.lock:
+            for _ in range(2):
+                text = numpy.empty(size.value, numpy.uint8)
+                out = written(text, numpy.uint8)
+                status = self.ask(self.calls.chtab_save, ctypes.byref(size), out)
+                if status != TOO_SHORT:
+                    break
+        see_that_done(status)
+        return text[:size.value].tobytes()
+
     def distances(self, sources: Nodes, targets: Nodes) -> Integers:
-        """The distances from sources to the targets beside them, nodes from 0 on; -1 for no
-        walk."""
+        """The distances from sources to the targets beside them; -1 for no walk."""
         out = numpy.empty(len(sources), numpy.int64)
         places = column(sources, NODE), column(targets, NODE)
         see_that_done(self.ask(self.calls.chtab_distances, *places, written(out, numpy.int64)))
         return out
 
     def few_distances(self, sources: Sequence[int], targets: Sequence[int]) -> list[int] | None:
-        """The same for at most `FEW` pairs, in lists, in a tenth of the time, because it makes and
-        checks no array; None to the handler of a signal in the middle of such a question."""
+        """The same for at most `FEW` pairs in lists; None within such a question."""
         count = len(sources)
         with self.lock:
             if self.is_asked:
@@ -402,8 +372,7 @@ class Handle:
     def route_sums(
         self, sources: Nodes, targets: Nodes, values: Unsigned,
     ) -> tuple[Integers, Unsigned]:
-        """The weights of the routes of pairs, -1 for no walk, and the sums of the values of their
-        arcs, 0 for no walk; `values` has one for each arc. A sum of 2^64 is refused."""
+        """The weights of the routes of pairs, -1 for no walk, and the sums of their values."""
         count, weights = ctypes.c_uint64(), numpy.empty(len(sources), numpy.int64)
         sums = numpy.empty(len(sources), NUMBER)
         see_that_done(self.ask(
@@ -413,23 +382,12 @@ class Handle:
         return weights, sums
 
     def flows(
-        self, sources: Nodes, targets: Nodes, demands: Unsigned, lines: int,
+        self, sources: Nodes, targets: Nodes, demands: Unsigned, lines: int, is_table: bool = False,
     ) -> tuple[int, Unsigned]:
         """The number of pairs without a walk, and the flow on each of the `lines` of the graph: the
-        demands of the pairs whose routes take its arc. A flow of more than 2^63 is refused."""
-        return self.flows_by(self.calls.chtab_flows, sources, targets, demands, lines)
-
-    def flows_table(
-        self, sources: Nodes, targets: Nodes, demands: Unsigned, lines: int,
-    ) -> tuple[int, Unsigned]:
-        """The same of each source with each target, by the demands of cells row after row."""
-        return self.flows_by(self.calls.chtab_flows_table, sources, targets, demands, lines)
-
-    def flows_by(
-        self, call: Callable[..., int], sources: Nodes, targets: Nodes, demands: Unsigned,
-        lines: int,
-    ) -> tuple[int, Unsigned]:
-        """What a call of the library gives of flows."""
+        demands of the pairs whose routes take its arc, or of the cells of a table, row after row.
+        A flow of more than 2^63 is refused."""
+        call = self.calls.chtab_flows_table if is_table else self.calls.chtab_flows
         missed, flows = ctypes.c_uint64(), numpy.empty(lines, NUMBER)
         places = column(sources, NODE), column(targets, NODE), column(demands, NUMBER)
         status = self.ask(call, *places, ctypes.byref(missed), written(flows, NUMBER))
@@ -441,8 +399,7 @@ class Handle:
     def keep_places(
         self, places: Nodes, limit: int = NO_LIMIT, count: int = ALL, is_from: bool = False,
     ) -> None:
-        """Searches from places, and keeps the result for rows of at most `count` places within the
-        limit, by the distances to the places or from them."""
+        """Searches from places, and keeps the result for rows of `near_rows` and `near_sums`."""
         if not (0 <= limit <= NO_LIMIT and 0 <= count <= ALL):
             raise ValueError("a limit is a number of 64 bits, and a count one of 32")
         call, own = self.calls.chtab_near_places, column(places, NODE)
@@ -453,8 +410,7 @@ class Handle:
         see_that_done(self.ask(self.calls.chtab_near_sweep))
 
     def near_rows(self, sources: Nodes, pairs: int) -> tuple[Integers, Integers, Integers]:
-        """The rows to the kept places of as many of the first sources as fit into so many pairs:
-        the end of each row, the weights and the places."""
+        """The rows of the first sources that fit into so many pairs: ends, weights, places."""
         rows, ends = ctypes.c_uint64(), numpy.empty(len(sources), numpy.int64)
         weights, places = numpy.empty(pairs, numpy.int64), numpy.empty(pairs, NODE)
         status = self.ask(
@@ -466,8 +422,7 @@ class Handle:
         return ends, weights[:end], places[:end].astype(numpy.int64)
 
     def near_sums(self, sources: Nodes, values: Unsigned, limits: Unsigned) -> Unsigned:
-        """For each source and limit the sum of the values of the kept places in its row within the
-        limit (n, m). A sum of 2^64 is refused."""
+        """For each source and limit the sum of the values in its row (n, m), below 2^64."""
         count, sums = ctypes.c_uint64(), numpy.empty(len(sources) * len(limits), NUMBER)
         given = column(sources, NODE), column(values, NUMBER), column(limits, NUMBER)
         call = self.calls.chtab_near_sums
@@ -475,65 +430,35 @@ class Handle:
         return sums.reshape(len(sources), len(limits))
 
 
-class Topology:
-    """The arcs of a graph without their weights, in an order of the nodes in which new weights take
-    little time; calls of several threads wait for one another.
-
-    It is closed by `close`, and when it is no longer used. It can't be copied or pickled.
-    """
+class Topology(Opened):
+    """The arcs of a graph without weights, in an order of the nodes in which new ones are quick."""
 
     def __init__(self, calls: ctypes.CDLL) -> None:
-        self.calls, self.block, self.lock = calls, TopologyBlock(), threading.RLock()
-        self.at = ctypes.byref(self.block)
-        ending = weakref.finalize(self, close, calls.chtab_topology_close, self.block, os.getpid())
-        ending.atexit = False
-
-    def __reduce__(self) -> NoReturn:
-        raise TypeError("a topology is neither copied nor pickled")
+        super().__init__(calls, TopologyBlock(), calls.chtab_topology_close)
 
     def open_arrays(
         self, nodes: int, tails: Nodes, heads: Nodes, order: bytes | None = None,
     ) -> None:
-        """Opens the topology of the arcs from `tails[k]` to `heads[k]`, nodes from 0 on, in the
-        order that the bytes name: those of a saved hierarchy, or of its lines `p` and `o`. Without
-        `order` the library finds a nested dissection order.
-
-        Raises a `ProgramFault` if the arcs or the bytes are refused, and a `DataFault` if new
-        weights would take too long in this order.
-        """
-        if order is not None and type(order) is not bytes:
-            raise TypeError("files are bytes")
-        if type(nodes) is not int or not 0 <= nodes < 2**32 or len(tails) != len(heads):
-            raise ValueError("a graph has a number of nodes, and columns of one length")
-        ends = address(tails, numpy.uint32), len(tails), address(heads, numpy.uint32), len(heads)
-        given, fault = given_bytes(order), Fault()
-        with self.lock:
-            words = self.at, nodes, *ends, given, len(given), ctypes.byref(fault)
-            status = self.calls.chtab_topology_open_arrays(*words)
+        """Opens the topology of the arcs from `tails` to `heads`, nodes from 0 on, in the order of
+        a hierarchy's lines, or in one that the library finds; a slow one is a `DataFault`."""
+        given, fault, ends = saved_text(order), Fault(), ends_of(nodes, tails, heads, len(tails))
+        call = self.calls.chtab_topology_open_arrays
+        status = self.ask(call, nodes, *ends, given, ctypes.byref(fault))
         if status == TRIANGLES:
             raise DataFault(DENSE, "order")
         see_that_opened(status, fault, order)
 
     def order(self, nodes: int) -> Nodes:
         """The nodes in order, from 0 on: uint32."""
-        order = numpy.empty(nodes, numpy.uint32)
-        with self.lock:
-            room = address(order, numpy.uint32, True), len(order)
-            see_that_done(self.calls.chtab_topology_order(self.at, *room))
+        order = numpy.empty(nodes, NODE)
+        see_that_done(self.ask(self.calls.chtab_topology_order, written(order, NODE)))
         return order
 
     def share(self) -> Topology:
         """Makes another topology of the same arcs, for another thread or another network."""
         other = Topology(self.calls)
-        with self.lock:
-            see_that_done(self.calls.chtab_topology_share(self.at, other.at))
+        see_that_done(self.ask(self.calls.chtab_topology_share, other.at))
         return other
-
-    def close(self) -> None:
-        """Closes the topology, once the call that is under way has ended. Further calls are
-        refused."""
-        with self.lock:
-            self.calls.chtab_topology_close(self.at)
 
 
 def see_that_done(status: int) -> None:
@@ -551,17 +476,32 @@ def see_that_done(status: int) -> None:
 # What calls refuse, by their statuses.
 REFUSED = {
     NODE_RANGE: "a node is not one of the network", LENGTHS: "the lengths of columns don't fit",
-    TOO_LARGE: "a table has at most 65,536 sources and as many targets, and so many places are kept",
+    TOO_LARGE:
+        "a table has at most 65,536 sources and as many targets, and so many places are kept",
     NO_PLACES: "no places are kept", SUM_TOO_LARGE: "a sum is 2^64 or more",
     OTHER_NODES: "the graph has another number of nodes",
-    FRESH_RANGE: "more than 100 per cent of the nodes would be ordered afresh",
-}
+    FRESH_RANGE: "more than 100 per cent of the nodes would be ordered afresh"}
 
 
-def given_bytes(saved: bytes | None) -> bytes:
-    """The bytes of a saved hierarchy, none where the library builds one."""
+def text_of(file: bytes) -> tuple[bytes, int]:
+    """The bytes of a file and their number."""
+    if type(file) is not bytes:
+        raise TypeError("files are bytes")
+    return file, len(file)
+
+
+def saved_text(saved: bytes | None) -> tuple[bytes, int]:
+    """The same of a saved hierarchy, none where the library builds one."""
+    given = (b"", 0) if saved is None else text_of(saved)
     # An empty file has to be a fault, and without any bytes a hierarchy would be built.
-    return b"" if saved is None else saved or b"\n"
+    return given if saved or saved is None else (b"\n", 1)
+
+
+def ends_of(nodes: int, tails: Nodes, heads: Nodes, arcs: int) -> tuple[Any, Any]:
+    """The columns of both ends of so many arcs. Those that make no graph are refused."""
+    if type(nodes) is not int or not 0 <= nodes < 2**32 or not len(tails) == len(heads) == arcs:
+        raise ValueError("a graph has a number of nodes, and columns of one length")
+    return column(tails, NODE), column(heads, NODE)
 
 
 def see_that_opened(status: int, fault: Fault, saved: bytes | None) -> None:

@@ -68,13 +68,11 @@ def see_that_free(folder: str) -> None:
 def write(
     arcs: Arcs, folder: str, program: str, calls: ctypes.CDLL, running: Running,
 ) -> Handle | None:
-    """Writes the files of arcs into a folder, and builds their hierarchy. Returns a handle of the
-    network if it was built in this process."""
+    """Writes the files of arcs, and builds their hierarchy; a handle if this process did."""
     graph, saved, coordinates, bends, labels = (
         os.path.join(folder, name) for name in (GRAPH, SAVED, COORDINATES, BENDS, LABELS))
-    comments = [f"Weights are {arcs.base}."] * bool(arcs.base) + (
-        [] if arcs.scale is None else [files.scale_comment(arcs.scale)]
-    )
+    comments = [f"Weights are {arcs.base}."] * bool(arcs.base)
+    comments += [] if arcs.scale is None else [files.scale_comment(arcs.scale)]
     with naming(graph):
         files.write_graph_columns(
             graph, arcs.labels.count, (arcs.tails, arcs.heads, arcs.weights), comments)
@@ -147,8 +145,7 @@ def digest_of(path: str) -> str:
 
 
 def build(program: str, graph: str, saved: str, running: Running) -> Handle | None:
-    """Builds the hierarchy of a graph, and saves it: the program does, in the order that takes the
-    least time to find, or in that of a saved hierarchy; or the network `like`, with a handle."""
+    """Builds and saves the hierarchy of a graph, by the program or the network `like`."""
     like, workers = running.like, ["--workers", str(running.workers)]
     if like is None:
         running_of.save(program, graph, saved, ["--quick", *workers], running.progress)
@@ -166,21 +163,16 @@ def save_alone(arcs: Arcs, calls: ctypes.CDLL, saved: str) -> Handle:
     handle, nodes = library.Handle(calls), arcs.labels.count
     columns = library.columns_of(nodes, arcs.tails, arcs.heads, arcs.weights)
     interruptible(LONG, handle.open_arrays, nodes, *columns)
-    with naming(saved), open(saved, "wb") as out:
-        out.write(handle.save(BYTES * (nodes + len(arcs.tails))))
-    return handle
+    return saved_by(handle, saved, BYTES * (nodes + len(arcs.tails)))
 
 
 def save_customized(arcs: Arcs, folder: str, customizing: Customizing) -> Handle:
-    """Customizes the weights of arcs, and saves their hierarchy and its order. Returns a handle of
-    its network."""
-    handle = customizing.handle(arcs.weights)
+    """Customizes the weights of arcs, and saves their hierarchy and its order; a handle."""
     saved, order = (os.path.join(folder, name) for name in (SAVED, ORDER))
-    with naming(saved), open(saved, "wb") as out:
-        out.write(handle.save(BYTES * (arcs.labels.count + len(arcs.tails))))
     with naming(order):
         customizing.keep(order)
-    return handle
+    room = BYTES * (arcs.labels.count + len(arcs.tails))
+    return saved_by(customizing.handle(arcs.weights), saved, room)
 
 
 def save_like(giver: InProcess, graph: str, saved: str, fresh: int) -> Handle:
@@ -190,6 +182,11 @@ def save_like(giver: InProcess, graph: str, saved: str, fresh: int) -> Handle:
     # Networks of the same nodes have texts of about one length.
     known = giver.setting.saved
     room = os.path.getsize(known) * 9 // 8 if known is not None and os.path.exists(known) else 0
+    return saved_by(handle, saved, room)
+
+
+def saved_by(handle: Handle, saved: str, room: int) -> Handle:
+    """Writes the hierarchy of a handle, which mostly has at most `room` bytes; the handle."""
     with naming(saved), open(saved, "wb") as out:
         out.write(handle.save(room))
     return handle

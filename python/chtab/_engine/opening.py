@@ -168,8 +168,7 @@ def see_that_readable(*paths: str | None) -> None:
 def made(
     arcs: Arcs, folder: Path | None, running: Running,
 ) -> tuple[Opening, folders.Folder | None, Handle | None]:
-    """The opening of arcs, whose files are written; their folder if it is a temporary one; and a
-    handle in the network if it was built in this process."""
+    """The opening of arcs, their folder if it is temporary, and a handle if there is one."""
     program = program_of(running.program)
     see_to(program)
     # Said before a hierarchy is built.

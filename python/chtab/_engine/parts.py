@@ -67,19 +67,14 @@ def make(
     with progress_of(progress, name, count, things, False) as counted:
         parts = Parts(count, most, deadline, counted)
         threads = min(workers, -(-count // most))
-        if threads > 1:
-            by_threads(parts, threads, work)
-        else:
+        if threads <= 1:
             work(iter(parts))
+        else:
+            with concurrent.futures.ThreadPoolExecutor(threads) as pool:
+                made = [pool.submit(work, iter(parts)) for _ in range(threads)]
+                try:
+                    for each in concurrent.futures.as_completed(made):
+                        each.result()
+                finally:
+                    parts.stop()
     deadline.check()
-
-
-def by_threads(parts: Parts, count: int, work: Callable[[Iterator[slice]], None]) -> None:
-    """Makes parts by so many threads."""
-    with concurrent.futures.ThreadPoolExecutor(count) as threads:
-        made = [threads.submit(work, iter(parts)) for _ in range(count)]
-        try:
-            for each in concurrent.futures.as_completed(made):
-                each.result()
-        finally:
-            parts.stop()

@@ -9,17 +9,13 @@ from typing import Any, TypeAlias, TypeVar
 
 # What callers give as `progress`.
 Asked: TypeAlias = bool | Callable[[int, int], Any] | None
-
-# Seconds from one line to the next.
-SECONDS = 10.0
-# Of more things than so many the bar counts thousands and millions.
-MANY = 100_000
-
-
 # A function that gets how many things are done, and of how many.
 Steps: TypeAlias = Callable[[int, int], Any]
-# Seconds from one line to the next where a caller asks for them.
-ASKED_SECONDS = 1.0
+# Seconds from one line to the next, by default and where a caller asks for them.
+SECONDS, ASKED_SECONDS = 10.0, 1.0
+# Of more things than so many the bar counts thousands and millions.
+MANY = 100_000
+Item = TypeVar("Item")
 
 
 def progress_of(
@@ -34,16 +30,8 @@ def progress_of(
         name, total, things, ASKED_SECONDS if asked else None, is_shown if asked is None else asked)
 
 
-Item = TypeVar("Item")
-
-
 class Progress:
-    """Counts what is done of `total` things, None if their number isn't known, and reports it every
-    `seconds` if `is_shown`. A `call` gets the count and the total at each step instead.
-
-        with Progress("blocks", 49, "blocks") as progress:
-            progress.step()
-    """
+    """Counts what is done of `total` things, or of an unknown number, and reports it."""
 
     def __init__(
         self, name: str, total: int | None, things: str, seconds: float | None = None,

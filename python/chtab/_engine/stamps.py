@@ -7,7 +7,6 @@ from typing import TypeAlias
 
 from chtab.errors import ProgramFault
 
-
 # Device, number, size and time in nanoseconds of a file.
 Stamp: TypeAlias = tuple[int, int, int, int]
 

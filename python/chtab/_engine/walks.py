@@ -15,8 +15,7 @@ NO_WALK = -1
 
 
 class Paths(NamedTuple):
-    """The routes of pairs of nodes: their weights, -1 where there is no walk, how many arcs each
-    has, and the arcs of all of them by their places in the graph, from 0 on."""
+    """The routes of pairs: weights, -1 for no walk, numbers of arcs, and arcs from 0 on."""
 
     weights: Integers
     counts: Integers
@@ -33,13 +32,6 @@ class Walks:
     tails: Integers
     heads: Integers
     arc_weights: Integers
-
-    def __len__(self) -> int:
-        return len(self.weights)
-
-    def counts(self) -> Integers:
-        """How many arcs each walk has."""
-        return numpy.diff(self.firsts)
 
     def sums(self, column: Integers) -> Integers:
         """For each walk the sum of a column over its arcs."""

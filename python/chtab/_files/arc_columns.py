@@ -82,11 +82,16 @@ def arcs_of(given: Columns) -> Arcs:
     labels, (tails, heads) = nodes_of(given, sources, targets)
     rows = len(sources)
     back = rows_back(given.both_ways, rows)
-    see_that_in_limits(len(labels.values), rows + len(back))
-    weights, rounding = whole_weights(
-        given.names[2], weights, factor, MOST_WEIGHT // len(labels.values))
+    nodes, arcs = len(labels.values), rows + len(back)
+    if not nodes:
+        raise DataFault("there is no node: a network has at least one", "nodes")
+    if nodes > MOST_NODES or arcs > MOST_ARCS:
+        raise DataFault(
+            f"{nodes:,} nodes and {arcs:,} arcs: a graph has at most {MOST_NODES:,} nodes and "
+            f"{MOST_ARCS:,} arcs", "nodes")
+    weights, rounding = whole_weights(given.names[2], weights, factor, MOST_WEIGHT // nodes)
     lines = edge_lines.lines_in("geometry", given.geometry, rows)
-    places = places_in(given, len(labels.values))
+    places = places_in(given, nodes)
     if places is None and lines is not None:
         places = edge_lines.ends_of(lines, tails, heads, labels)
     bends = {} if lines is None else edge_lines.bends_of(lines, tails, heads, places)
@@ -144,15 +149,6 @@ def nodes_of(given: Columns, sources: LabelArray, targets: LabelArray) -> tuple[
     return labels, [labels.nodes_of(name, column) for name, column in ends]
 
 
-def see_that_in_limits(nodes: int, arcs: int) -> None:
-    if not nodes:
-        raise DataFault("there is no node: a network has at least one", "nodes")
-    if nodes > MOST_NODES or arcs > MOST_ARCS:
-        raise DataFault(
-            f"{nodes:,} nodes and {arcs:,} arcs: a graph has at most {MOST_NODES:,} nodes and "
-            f"{MOST_ARCS:,} arcs", "nodes")
-
-
 def scale_in(scale: float | None) -> float | None:
     """A scale: a whole number, a float, or None."""
     if scale is None:
@@ -168,7 +164,8 @@ def whole_weights(
     hint: str = "; `unit` or `scale` says how it becomes one",
 ) -> tuple[Integers, float]:
     """The weights of a graph, none above `most`, and their largest rounding in its unit."""
-    see_that_weights(name, weights)
+    refuse(name, ~((weights >= 0) & (weights < numpy.inf)), lambda row: (
+        f"{weights[row]} is {'below 0' if -numpy.inf < weights[row] < 0 else 'no weight'}"))
     if weights.dtype == numpy.int64 and isinstance(scale, int | None):
         factor = 1 if scale is None else scale
         see_that_small(name, weights, weights <= most // factor)
@@ -180,12 +177,6 @@ def whole_weights(
     if scale is None:
         refuse(name, apart > 0, lambda row: f"{weights[row]} is not a whole number{hint}")
     return whole.astype(numpy.int64), float(apart.max(initial=0))
-
-
-def see_that_weights(name: str, weights: NDArray[Any]) -> None:
-    """Refuses the first weight that is below 0 or not finite."""
-    refuse(name, ~((weights >= 0) & (weights < numpy.inf)), lambda row: (
-        f"{weights[row]} is {'below 0' if -numpy.inf < weights[row] < 0 else 'no weight'}"))
 
 
 def see_that_small(name: str, weights: NDArray[Any], is_small: Marks) -> None:

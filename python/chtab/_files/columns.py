@@ -207,13 +207,7 @@ def objects_like(array: NDArray[Any], values: Iterable[object]) -> LabelArray:
 
 def objects_of(values: Sequence[Any]) -> LabelArray:
     """A column of objects from a list, in which tuples stay tuples."""
-    made = numpy.empty(len(values), object)
-    if values and isinstance(values[0], tuple):
-        for place, value in enumerate(values):
-            made[place] = value
-    else:
-        made[:] = values
-    return made
+    return numpy.fromiter(values, object, len(values))
 
 
 def integers_like(name: str, array: NDArray[Any], values: Iterable[Any]) -> LabelArray:

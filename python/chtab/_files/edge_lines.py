@@ -14,7 +14,6 @@ if TYPE_CHECKING:
     from chtab._files.node_labels import Labels
     from chtab.typing import Floats, Integers, Point
 
-
 # Longitudes and latitudes, shape (n, 2).
 Line: TypeAlias = "Floats"
 
@@ -76,12 +75,8 @@ def bends_of(
     for arc, line in enumerate(lines):
         if line is not None and len(line) > 2:
             tail, head = ([axis[node - 1] for axis in places] for node in (tails[arc], heads[arc]))
-            points = line[::-1] if is_turned(line, tail, head) else line
+            straight, turned = (
+                abs(line[[0, -1]] - ends).sum() for ends in ((tail, head), (head, tail)))
+            points = line[::-1] if turned < straight else line
             bends[arc] = [(x, y) for x, y in points[1:-1].tolist()]
     return bends
-
-
-def is_turned(line: Line, tail: Sequence[float], head: Sequence[float]) -> bool:
-    """Whether the ends of a line are nearer to the arc's ends in the opposite direction."""
-    straight, turned = (abs(line[[0, -1]] - ends).sum() for ends in ((tail, head), (head, tail)))
-    return turned < straight

@@ -6,6 +6,7 @@ import array
 import contextlib
 import itertools
 import os
+import secrets
 from collections.abc import Iterable, Iterator, Sequence
 from typing import IO, TYPE_CHECKING, Any, cast
 
@@ -125,7 +126,7 @@ def whole(path: str) -> Iterator[str]:
     OSError
         The file can't get its name.
     """
-    part = f"{path}.part-{os.getpid()}"
+    part = f"{path}.part-{secrets.token_hex(8)}"
     try:
         yield part
         os.replace(part, path)

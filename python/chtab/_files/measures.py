@@ -69,7 +69,11 @@ class Measure:
         if given is None or isinstance(given, float | numpy.floating) and given == numpy.inf:
             return None
         if self.is_whole:
-            return whole_limit(name, self.number(name, given))
+            limit = self.number(name, given)
+            if not 0 <= limit <= MOST:
+                raise ValueError(f"{name} is {limit!r}: a limit is from 0 to 2^60")
+            # `math.floor` would make a float of a number of numpy first.
+            return int(limit)
         value, most = float(self.number(name, given)), MOST / self.factor
         if not 0 <= value <= most:
             text = f"{name} is {given!r}: a limit is from 0 to {most:g} {self.unit}"
@@ -129,14 +133,6 @@ def microseconds(duration: Any) -> Fraction:
     if nanoseconds is not None:
         return Fraction(nanoseconds, 1_000)
     return Fraction(duration // datetime.timedelta(microseconds=1))
-
-
-def whole_limit(name: str, limit: Any) -> int:
-    """The largest whole number up to a limit, which admits the same weights."""
-    if not 0 <= limit <= MOST:
-        raise ValueError(f"{name} is {limit!r}: a limit is from 0 to 2^60")
-    # `math.floor` would make a float of a number of numpy first.
-    return int(limit)
 
 
 # Which measure a network has.

@@ -85,16 +85,13 @@ def no_number(name: str, column: NDArray[Any], given: Any) -> DataFault:
     is_array = column.dtype != object and not isinstance(given, list | tuple)
     array = column if is_array else numpy.array(given, object)
     values = array.reshape(-1).tolist()
-    place = columns.first_of([not is_node(value) for value in values]) or 0
+    are_whole = (
+        columns.is_integer(type(value))
+        or isinstance(value, float | numpy.floating) and float(value).is_integer()
+        for value in values)
+    place = next((place for place, is_one in enumerate(are_whole) if not is_one), 0)
     text = f"{quoted(values[place])} is no node: a node is a whole number"
     return columns.refused(name, row_of(array, place), text)
-
-
-def is_node(value: object) -> bool:
-    """Whether a value is a whole number."""
-    return (
-        columns.is_integer(type(value))
-        or isinstance(value, float | numpy.floating) and float(value).is_integer())
 
 
 class Labels:

@@ -210,13 +210,10 @@ def explored(features: Sequence[Geojson], name: str, style: Mapping[str, Any]) -
 def geodataframe(collection: dict) -> geopandas.GeoDataFrame:
     """The features of a collection as rows in degrees, None for a missing geometry."""
     import geopandas
-    from shapely.geometry import shape
 
     features = collection["features"]
-    shapes = [each["geometry"] and shape(each["geometry"]) for each in features]
-    rows = [{**each["properties"], "geometry": own} for each, own in zip(features, shapes)]
-    columns = [*rows[0]] if rows else ["geometry"]
-    return geopandas.GeoDataFrame(rows, columns=columns, geometry="geometry", crs=DEGREES)
+    columns = [*(features[0]["properties"] if features else ()), "geometry"]
+    return geopandas.GeoDataFrame.from_features(features, DEGREES, columns)
 
 
 def with_geometry(frame: pandas.DataFrame, shapes: Sequence[Any]) -> geopandas.GeoDataFrame:

@@ -7,8 +7,7 @@ from typing import TYPE_CHECKING
 
 from chtab.errors import FileFault
 from chtab._files.forms import (
-    columns, name_of, see_that_of_graph, write_comments, write_rows, writing,
-)
+    columns, name_of, see_that_of_graph, write_comments, write_rows, writing)
 
 if TYPE_CHECKING:
     from chtab.typing import Source, Target

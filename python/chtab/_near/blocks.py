@@ -14,9 +14,7 @@ import numpy
 from chtab._engine import cluster, deadlines
 from chtab._engine.progress import progress_of
 from chtab._near import rows as near_rows
-from chtab._near.question import (
-    FEW, SHARE, SWEPT, NearQuestion, NearRows, Question, SpotQuestion,
-)
+from chtab._near.question import FEW, SHARE, SWEPT, NearQuestion, NearRows, Question, SpotQuestion
 
 if TYPE_CHECKING:
     from numpy.typing import NDArray
@@ -87,12 +85,6 @@ def sums(
         return NearRows(handle, question, engine.nodes, deadline).sums(values, limits)
 
 
-def in_turn(engine: InProcess, found: Iterable[Block], make: Make) -> Made:
-    """Makes one block after the other."""
-    for block in found:
-        yield block, make(block, rows_by(engine, block.question))
-
-
 def side_by_side(engine: InProcess, found: Iterable[Block], make: Make, workers: int) -> Made:
     """Makes blocks by several threads at a time."""
     deadline, is_over = deadlines.current(engine.setting.timeout), False
@@ -160,7 +152,7 @@ def values(
     elif min(count, len(found)) > 1:
         made = side_by_side(engine, found, make, min(count, len(found)))
     else:
-        made = in_turn(engine, found, make)
+        made = ((block, make(block, rows_by(engine, block.question))) for block in found)
     reported = progress_of(progress, "near", len(found), "blocks", len(found) > 1)
     with contextlib.closing(made), reported as counted:
         yield from counted.each(made)

@@ -145,8 +145,7 @@ class NearRows:
             start += len(ends)
 
     def sums(self, values: NDArray[numpy.uint64], limits: Sequence[int]) -> Floats:
-        """For each source, column and limit the sum of the values (l, c) of the targets within it
-        (n, c, m); the values are whole numbers, whose sums are exact as floats."""
+        """For each source, column and limit the sum of the values (l, c) within it (n, c, m)."""
         columns = [numpy.ascontiguousarray(column) for column in values.T]
         within = numpy.array(limits, numpy.uint64)
         found = numpy.zeros((len(self.sources), len(columns), len(limits)))

@@ -75,10 +75,6 @@ class Asked:
         """The labels of sources and targets."""
         return self.source_labels(), self.labels_of(self.targets)
 
-    def source_places(self) -> Any:
-        """The places of sources in degrees (n, 2), if these are spots, and else None."""
-        return self.sources.places if isinstance(self.sources, Spots) else None
-
 
 class Values(NamedTuple):
     """The question of an aggregate: nodes, values (l, c), names of columns or None, if several."""

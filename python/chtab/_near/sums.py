@@ -189,8 +189,11 @@ def state_of(rows: near_rows.Rows, asked: Asked) -> State:
         is_near = rows.weights <= limit
         near, values = owners[is_near], asked.values[rows.places[is_near]]
         if asked.kind in ("min", "max"):
-            least = numpy.minimum if asked.kind == "min" else numpy.maximum
-            extremes(state[0][:, :, place], near, values, least)
+            least: Any = numpy.minimum if asked.kind == "min" else numpy.maximum
+            # The owners are in order.
+            firsts = numpy.flatnonzero(numpy.diff(near, prepend=-1))
+            if len(firsts):
+                state[0][near[firsts], :, place] = least.reduceat(values, firsts, axis=0)
             continue
         shares = numpy.ones(len(near))
         if asked.share is not None:
@@ -200,13 +203,6 @@ def state_of(rows: near_rows.Rows, asked: Asked) -> State:
             for array, part in zip(state, parts):
                 array[:, column, place] = part
     return state
-
-
-def extremes(out: Floats, owners: Integers, values: Floats, least: Any) -> None:
-    """Writes the least or greatest value of each owner. The owners are in order."""
-    firsts = numpy.flatnonzero(numpy.diff(owners, prepend=-1))
-    if len(firsts):
-        out[owners[firsts]] = least.reduceat(values, firsts, axis=0)
 
 
 def moments(owners: Integers, values: Floats, shares: Floats, count: int) -> State:

@@ -15,7 +15,7 @@ from chtab.errors import DataFault
 from chtab._files import columns, row_index
 from chtab._files.columns import refused, quoted
 from chtab._roads.groups import Found, Groups
-from chtab._roads.snapping import NONE, Spots
+from chtab._roads.snapping import BACKWARD, FORWARD, NONE, Spots
 
 if TYPE_CHECKING:
     from chtab._roads.layers import Layers
@@ -107,8 +107,7 @@ class ArcNames:
         finders: dict[str, Callable[..., Found]] = {
             ROW: self.of_rows, SPOTS: self.of_spots, WAYS: self.of_ways, STREETS: self.of_streets,
             BOTH: self.of_both, NODE: self.of_nodes, PAIR: self.of_tuples, EDGE: self.of_tuples,
-            OTHER: self.of_others,
-        }
+            OTHER: self.of_others}
         calls = (
             functools.partial(
                 finders[kind], name, numpy.array(own), [names[place] for place in own])
@@ -193,7 +192,7 @@ class ArcNames:
     def of_tuples(self, name: str, places: Integers, names: Sequence[Any]) -> Found:
         """The arcs between two nodes, or the edges with keys, all of one length."""
         sources, targets, *keys = ([each[part] for each in names] for part in range(len(names[0])))
-        return self.of_ends(name, places, sources, targets, *map(objects_in, keys))
+        return self.of_ends(name, places, sources, targets, *map(columns.objects_of, keys))
 
     def of_ends(
         self, name: str, places: Integers, sources: Any, targets: Any,
@@ -266,7 +265,8 @@ class ArcNames:
         is_at_end = (parts == 0) | (parts == 1)
         arcs = numpy.flatnonzero(roads.road_of != NONE)
         along = Groups.of(roads.road_of[arcs], arcs).of_each(numbers[~is_at_end])
-        is_open = roads.sides_of(along.items) & sides[~is_at_end][along.places] > 0
+        directions = numpy.where(roads.is_back[along.items], BACKWARD, FORWARD)
+        is_open = directions & sides[~is_at_end][along.places] > 0
         nodes = numpy.where(parts == 0, roads.firsts[numbers], roads.lasts[numbers])[is_at_end]
         at_crossings = self.by_node.of_each(self.layers.crossings[nodes]).through(owners[is_at_end])
         along = Found(along.items[is_open], along.places[is_open]).through(owners[~is_at_end])
@@ -367,14 +367,6 @@ def levels_of(index: Any) -> list[Any]:
 def values_of(column: Any) -> Sequence[Any]:
     """The values of a column in a list."""
     return column.tolist() if isinstance(column, numpy.ndarray) else column
-
-
-def objects_in(values: Sequence[Any]) -> LabelArray:
-    """An array of any values."""
-    made = numpy.empty(len(values), object)
-    for place, value in enumerate(values):
-        made[place] = value
-    return made
 
 
 def are_equal(keys: LabelArray, others: Any) -> Marks:

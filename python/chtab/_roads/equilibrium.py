@@ -1,4 +1,5 @@
-"""Traffic at *user equilibrium*: flows whose times leave no trip a faster route, by the methods of Frank and Wolfe, and of Mitradjieva and Lindberg."""
+"""Traffic at *user equilibrium*: flows whose times leave no trip a faster route, by the methods of
+Frank and Wolfe, and of Mitradjieva and Lindberg."""
 from __future__ import annotations
 
 import math
@@ -24,9 +25,11 @@ if TYPE_CHECKING:
     from chtab.typing import Floats
 
 METHODS = MSA, FRANK_WOLFE, BI_CONJUGATE = "msa", "frank-wolfe", "bi-conjugate"
-# A step of at least this length ends the memory of earlier directions, because they have no part in the flows any more.
+# A step of at least this length ends the memory of earlier directions, because they have no part in
+# the flows any more.
 WHOLE_STEP = 0.999_999
-# How near the bounds of a step's length come to each other, and the part of a flow that a derivative is taken over.
+# How near the bounds of a step's length come to each other, and the part of a flow that a
+# derivative is taken over.
 NEAR, DIFFERENCE = 1e-13, 1e-6
 
 
@@ -42,11 +45,13 @@ class Equilibrium(NamedTuple):
     total_time : float
         The sum of flows times times.
     gaps : list of float
-        The relative gap before each step: the part of all costs that the trips would save, if each took its fastest route and times stayed.
+        The relative gap before each step: the part of all costs that the trips would save, if each
+        took its fastest route and times stayed.
     is_reached : bool
         Whether the last gap is at most the one that was asked for.
     rounding : float
-        The largest difference, in the network's unit, between a cost and the whole weight that routes were found with.
+        The largest difference, in the network's unit, between a cost and the whole weight that
+        routes were found with.
     missed : int
         How many pairs have no route.
     """
@@ -61,7 +66,7 @@ class Equilibrium(NamedTuple):
 
 
 def see_that_known(method: str, gap: float, steps: int) -> None:
-    """Refuses a method that there is not, and a gap or a number of steps at which no search ends."""
+    """Refuses an unknown method, and a gap or a number of steps at which no search ends."""
     if method not in METHODS:
         raise ValueError(f"method is one of {', '.join(METHODS)}, not {method!r}")
     if isinstance(steps, bool) or not isinstance(steps, int | numpy.integer) or steps < 1:
@@ -71,13 +76,15 @@ def see_that_known(method: str, gap: float, steps: int) -> None:
 
 
 class Rows:
-    """The rows of the arcs of a network, as traffic has them: each leads one way, and has a flow and a time."""
+    """The rows of the arcs of a network, each of which leads one way, and has a flow and a time."""
 
     def __init__(self, layers: Layers, measure: Measure) -> None:
         self.layers, self.measure, self.count = layers, measure, layers.row_count
         twice = columns.first_of(numpy.bincount(layers.rows, minlength=self.count) > 1)
         if twice is not None:
-            raise DataFault(f"row {twice} of the arcs leads both ways: traffic needs a row for each direction", "arcs", twice)
+            raise DataFault(
+                f"row {twice} of the arcs leads both ways: traffic needs a row for each direction",
+                "arcs", twice)
 
     def column(self, name: str, given: Any) -> Floats:
         """A number for each row, from one for all or a column."""
@@ -86,7 +93,9 @@ class Rows:
         given = ArcNames(self.layers).in_rows(name, given) if hasattr(given, "iloc") else given
         column = numpy.asarray(columns.numbers_in(name, given), float)
         if column.shape != (self.count,):
-            raise DataFault(f"{name} has the shape {column.shape}, and there are {self.count:,} rows of arcs", name)
+            raise DataFault(
+                f"{name} has the shape {column.shape}, and there are {self.count:,} rows of arcs",
+                name)
         wrong = columns.first_of(~((column >= 0) & (column < numpy.inf)))
         if wrong is not None:
             raise refused(name, wrong, f"{column[wrong]} is not a number from 0 on")
@@ -95,37 +104,43 @@ class Rows:
     def fixed(self, tolls: Any, value_of_time: Any) -> Floats:
         """What each row costs beside its time, in the network's unit of time."""
         if (tolls is None) != (value_of_time is None):
-            raise ValueError("tolls and value_of_time go together: a toll divided by the value of time is a time")
+            raise ValueError(
+                "tolls and value_of_time go together: a toll divided by the value of time is a "
+                "time")
         if tolls is None:
             return numpy.zeros(self.count)
-        if isinstance(value_of_time, bool) or not isinstance(value_of_time, numbers.Real) or not 0 < float(value_of_time) < math.inf:
+        if (
+            isinstance(value_of_time, bool) or not isinstance(value_of_time, numbers.Real)
+            or not 0 < float(value_of_time) < math.inf
+        ):
             raise ValueError(f"value_of_time is a number above 0, not {value_of_time!r}")
         return self.column("tolls", tolls) / float(value_of_time)
 
     def bpr(self, capacity: Any, alpha: Any, beta: Any) -> Bpr:
-        """The function of the Bureau of Public Roads, whose free times are the weights of the network. A row whose arc is closed has no flow."""
+        """The function of the Bureau of Public Roads, with the network's weights as free times."""
         if capacity is None:
-            raise ValueError("traffic needs a capacity for each row, or times, a function of the flows")
+            raise ValueError(
+                "traffic needs a capacity for each row, or times, a function of the flows")
         capacities = self.column("capacity", capacity)
         none = columns.first_of(capacities == 0)
         if none is not None:
-            raise refused("capacity", none, "0 lets nothing through: close the arc by `changed` instead")
+            raise refused(
+                "capacity", none, "0 lets nothing through: close the arc by `changed` instead")
         free = numpy.zeros(self.count)
-        free[self.layers.rows] = numpy.asarray(self.layers.graph.weights, float) / self.measure.factor
+        weights = numpy.asarray(self.layers.graph.weights, float)
+        free[self.layers.rows] = weights / self.measure.factor
         return Bpr(free, capacities, self.column("alpha", alpha), self.column("beta", beta))
 
     def rounded(self, costs: Floats) -> tuple[Floats, float]:
-        """Costs as the weights of a network with these costs, in the network's unit; and the largest rounding of one, in this unit."""
+        """Costs as the weights of a network, in its unit, and the largest rounding of one."""
         factor = self.measure.factor
-        whole_weights = numpy.rint(costs * factor)
-        return (whole_weights if factor == 1 else whole_weights / factor), float(abs(whole_weights / factor - costs).max(initial=0))
-
-    def times(self, call: Callable[[Floats], ArrayLike]) -> Given:
-        """Times by a function of the caller's."""
-        return Given(call, self.count)
+        rounded = numpy.rint(costs * factor) / factor
+        return rounded, float(abs(rounded - costs).max(initial=0))
 
 
-def equilibrium_of(rows: Rows, search: Search, gap: float, steps: int, progress: Progress) -> Equilibrium:
+def equilibrium_of(
+    rows: Rows, search: Search, gap: float, steps: int, progress: Progress,
+) -> Equilibrium:
     """Takes steps of a search until the gap is small enough, and returns where it has come."""
     import pandas
 
@@ -134,7 +149,9 @@ def equilibrium_of(rows: Rows, search: Search, gap: float, steps: int, progress:
     index, times = index_of_rows(rows.layers), search.curve.times(search.flows)
     flows = pandas.Series(search.flows, index, name="flow")
     total = float(search.flows @ times)
-    return Equilibrium(flows, pandas.Series(times, index, name="time"), total, gaps, gaps[-1] <= gap, search.trips.rounding, search.trips.missed)
+    return Equilibrium(
+        flows, pandas.Series(times, index, name="time"), total, gaps, gaps[-1] <= gap,
+        search.trips.rounding, search.trips.missed)
 
 
 class Bpr(NamedTuple):
@@ -151,7 +168,8 @@ class Bpr(NamedTuple):
     def slopes(self, flows: Floats) -> Floats:
         """The derivative of each time by its flow."""
         with numpy.errstate(divide="ignore", invalid="ignore"):
-            found = self.free * self.alpha * self.beta * (flows / self.capacity) ** (self.beta - 1) / self.capacity
+            shares = (flows / self.capacity) ** (self.beta - 1)
+            found = self.free * self.alpha * self.beta * shares / self.capacity
         return numpy.nan_to_num(found, nan=0.0, posinf=0.0)
 
 
@@ -164,14 +182,16 @@ class Given(NamedTuple):
     def times(self, flows: Floats) -> Floats:
         found = numpy.asarray(self.call(flows.copy()), float)
         if found.shape != (self.rows,):
-            raise DataFault(f"times returned the shape {found.shape}, and there are {self.rows:,} rows of arcs", "times")
+            raise DataFault(
+                f"times returned the shape {found.shape}, and there are {self.rows:,} rows of arcs",
+                "times")
         wrong = columns.first_of(~((found >= 0) & (found < numpy.inf)))
         if wrong is not None:
             raise refused("times", wrong, f"{found[wrong]} is no time")
         return found
 
     def slopes(self, flows: Floats) -> Floats:
-        """About the derivative of each time by its flow. It decides on directions alone, and not on the answer."""
+        """About the derivative of each time by its flow, which decides on directions alone."""
         by = DIFFERENCE * numpy.maximum(flows, 1.0)
         return numpy.maximum(0.0, (self.times(flows + by) - self.times(flows)) / by)
 
@@ -235,38 +255,41 @@ class Search:
         self.towards = [] if self.length >= WHOLE_STEP else [point, *self.towards[:1]]
 
     def conjugate(self, fastest: Floats) -> Floats:
-        """The point for the next step: one whose direction is conjugate to those of the last two steps, as far as it is between points of flows."""
+        """The point for the next step, conjugate to the last two steps where it can be."""
         if not self.towards:
             return fastest
         slopes, ahead = self.curve.slopes(self.flows), fastest - self.flows
         last = self.towards[0]
         one = last - self.flows
         if len(self.towards) == 1:
-            share = part_of(float(slopes * one @ ahead), float(slopes * one @ (fastest - last)))
+            share = part(float(slopes * one @ ahead), float(slopes * one @ (fastest - last)))
+            share = min(max(share, 0.0), 0.99)
             return share * last + (1 - share) * fastest
         before = self.towards[1]
         two = self.length * last + (1 - self.length) * before - self.flows
         mu = max(0.0, -part(float(slopes * two @ ahead), float(slopes * two @ (before - last))))
-        nu = max(0.0, -part(float(slopes * one @ ahead), float(slopes * one @ one)) + mu * self.length / (1 - self.length))
+        back = part(float(slopes * one @ ahead), float(slopes * one @ one))
+        nu = max(0.0, mu * self.length / (1 - self.length) - back)
         return (fastest + nu * last + mu * before) / (1 + nu + mu)
 
     def line(self, direction: Floats) -> float:
         """The length of the step, up to 1, at which costs along the direction are least."""
         def slope(length: float) -> float:
-            return float(self.costs(numpy.maximum(0.0, self.flows + length * direction)) @ direction)
+            flows = numpy.maximum(0.0, self.flows + length * direction)
+            return float(self.costs(flows) @ direction)
 
         below, above = slope(0.0), slope(1.0)
         return 1.0 if above <= 0 else root(slope, below, above)
 
 
 def root(slope: Callable[[float], float], below: float, above: float) -> float:
-    """Where a slope passes 0 that is below it at 0, above it at 1, and never falls.
-
-    It is found by false positions (the Illinois method), and each third time by halves. The slope at the answer is at most 0.
-    """
+    """Where a slope that never falls passes 0 on the way from 0 to 1; it is at most 0 there."""
+    # By false positions (the Illinois method), and each third time by halves.
     low, high, last, step = 0.0, 1.0, 0, 0
     while high - low > NEAR:
-        middle = (low + high) / 2 if step % 3 == 2 or below >= 0 else low + (high - low) * below / (below - above)
+        middle = (
+            (low + high) / 2 if step % 3 == 2 or below >= 0
+            else low + (high - low) * below / (below - above))
         if not low < middle < high:
             middle = (low + high) / 2
             if not low < middle < high:
@@ -285,8 +308,3 @@ def root(slope: Callable[[float], float], below: float, above: float) -> float:
 def part(value: float, whole_value: float) -> float:
     """A quotient, 0 where there is none."""
     return value / whole_value if whole_value else 0.0
-
-
-def part_of(value: float, whole_value: float) -> float:
-    """The part of the last point in a conjugate direction, from 0 to below 1."""
-    return min(max(part(value, whole_value), 0.0), 0.99)

@@ -41,8 +41,7 @@ def edges_of(layers: Layers, measure: Measure) -> geopandas.GeoDataFrame:
     ends = [layers.crossings[column[arcs]] for column in (roads.tails, roads.heads)]
     columns = {
         "source": labels.of(ends[0]), "target": labels.of(ends[1]), "row": layers.rows_of(arcs),
-        "weight": measure.in_unit(roads.weights[arcs]), "metres": metres,
-    }
+        "weight": measure.in_unit(roads.weights[arcs]), "metres": metres}
     lines = [
         None if road == NONE else LineString(roads.lines.of(road)[::-1 if back else 1])
         for road, back in zip(own.tolist(), is_back.tolist())]

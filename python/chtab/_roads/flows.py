@@ -125,7 +125,9 @@ def demands_of(demand: Any, shape: tuple[int, ...], scale: float | None) -> Dema
         row, column = divmod(fault.row, shape[1])
         text = str(fault).replace(f"[{fault.row}]", f"[{row}, {column}]", 1)
         raise DataFault(text, fault.column, row) from None
-    if total_of(whole) >= LIMIT:
+    # The halves of numbers of at most 2^53 add up exactly.
+    high, low = whole >> numpy.uint64(32), whole & numpy.uint64(2**32 - 1)
+    if (int(high.sum()) << 32) + int(low.sum()) >= LIMIT:
         text = "the sum of all demands is 2^63 or more of the units that are counted"
         raise DataFault(text, "demand")
     return Demands(whole.reshape(shape), 1.0 if scale is None and is_float else scale)
@@ -162,12 +164,6 @@ def whole_demands(demand: Any, count: int, scale: float | None) -> tuple[Unsigne
     refuse("demand", rounded > EXACT, lambda row: (
         f"{given[row]} is too large: it is more than 2^53 of the units that are counted"))
     return rounded.astype(numpy.uint64), given.dtype.kind == "f"
-
-
-def total_of(demands: Unsigned) -> int:
-    """The exact sum of whole numbers of at most 2^53."""
-    half = numpy.uint64(32)
-    return (int((demands >> half).sum()) << 32) + int((demands & numpy.uint64(2**32 - 1)).sum())
 
 
 def series_of(layers: Layers, by_row: NDArray[Any], missed: int) -> pandas.Series:

@@ -66,16 +66,13 @@ def nodes_in_order(nodes: Any, x: Any, y: Any) -> list[Any]:
     given = [listed(column) for column in (nodes, x, y)]
     nodes, *places = row_index.matched(("nodes", "x", "y"), given)
     if hasattr(nodes, "get_indexer") and nodes.is_unique:
-        places = [by_labels(column, nodes) for column in places]
+        for place, column in enumerate(places):
+            index = row_index.index_of(column)
+            if index is None or len(index) != len(nodes) or not index.is_unique:
+                continue
+            if index.isin(nodes).all():
+                places[place] = column.iloc[index.get_indexer(nodes)]
     return [nodes, *places]
-
-
-def by_labels(column: Any, labels: Any) -> Any:
-    """A column in the order of labels, if its index has just these."""
-    index = row_index.index_of(column)
-    if index is None or len(index) != len(labels) or not index.is_unique:
-        return column
-    return column.iloc[index.get_indexer(labels)] if index.isin(labels).all() else column
 
 
 @contextlib.contextmanager

@@ -39,7 +39,9 @@ def columns_of_geodataframe(
     of_arcs = {**more, "both_ways": marks_of(edges, both_ways)}
     if all(has_ends):
         sources, targets = (column_of(edges, name) for name in (source, target))
-        of_arcs |= of_nodes(nodes)
+        if nodes is not None:
+            points = in_degrees(nodes).geometry
+            of_arcs |= {"nodes": nodes.index, "x": points.x, "y": points.y}
     elif any(has_ends) or nodes is not None:
         text = f"the frame has no columns {source!r} and {target!r} for the ends of lines"
         raise DataFault(text, source if has_ends[1] else target)
@@ -57,14 +59,6 @@ def columns_of_geodataframe(
     return arc_columns.Columns(
         sources, targets, weights, geometry=lines, names=named, keys=keys, ways=ways,
         index=edges.index, **of_arcs)
-
-
-def of_nodes(nodes: Any) -> dict[str, Any]:
-    """The labels and places of a frame of points; nothing if there is no frame."""
-    if nodes is None:
-        return {}
-    points = in_degrees(nodes).geometry
-    return {"nodes": nodes.index, "x": points.x, "y": points.y}
 
 
 def by_ends(lines: Any) -> tuple[tuple[Integers, Integers], dict[str, Any]]:

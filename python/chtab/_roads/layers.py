@@ -25,7 +25,6 @@ if TYPE_CHECKING:
     from chtab._roads.snapping import Roads
     from chtab.typing import Integers, Marks, Point
 
-
 Value = TypeVar("Value")
 # What is said of turns where there is no file of places.
 NO_TURNS = files.Coordinates(array.array("d"), array.array("d"), [])
@@ -64,11 +63,8 @@ class Layers:
         self.path, self.asked = path, asked
         self.paths = {
             "coordinates": coordinates or beside(base + ".co"),
-            "bends": bends or beside(base + ".bends"),
-            "labelling": labelling,
-            "streets": beside(base + ".names"),
-            "ways": beside(base + ".ways"),
-        }
+            "bends": bends or beside(base + ".bends"), "labelling": labelling,
+            "streets": beside(base + ".names"), "ways": beside(base + ".ways")}
         self.kept: dict[str, Any] = {}
         self.stamps = Stamps(path, *self.paths.values())
         self.leave_parent()
@@ -81,22 +77,6 @@ class Layers:
     def __reduce__(self) -> tuple[Any, ...]:
         paths = [self.paths[name] for name in ("coordinates", "bends", "labelling")]
         return Layers, (self.path, *paths, self.asked)
-
-    def weighed(self, weights: Integers) -> Layers:
-        """The layers of the same network with other weights of its arcs. What depends on no weight
-        is shared."""
-        roads = self.roads.weighed(weights)
-        with self.lock:
-            kept = {name: value for name, value in self.kept.items() if name != "graph"}
-        other = Layers(self.path, asked=self.asked)
-        other.paths, other.stamps = self.paths, self.stamps
-        other.kept = kept | {
-            "roads": roads,
-            "graph": files.Graph(
-                files.count_nodes(self.path), fixed(roads.tails), fixed(roads.heads),
-                fixed(roads.weights), files.read_unit(self.path)),
-        }
-        return other
 
     @of_files
     def graph(self) -> files.Graph:

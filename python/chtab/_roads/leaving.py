@@ -63,24 +63,6 @@ class Few(NamedTuple):
     road: int
     part: float
     length: float
-    # The nodes out of it, which are the first `width`, and into it, with what is added there.
+    # The nodes out of it and then those into it, with what is added there.
     nodes: list[int]
     weights: list[int]
-    width: int
-
-    @property
-    def outs(self) -> list[tuple[int, int, int]]:
-        """The ways out: the end of the road, 0 or 1, the node and the weight."""
-        return by_ends(self.nodes[:self.width], self.weights[:self.width])
-
-    @property
-    def ins(self) -> list[tuple[int, int, int]]:
-        """The ways in, in the same form."""
-        return by_ends(self.nodes[self.width:], self.weights[self.width:])
-
-
-def by_ends(nodes: list[int], weights: list[int]) -> list[tuple[int, int, int]]:
-    """Nodes and weights with the end of the road, of which the first half are at the first one."""
-    half = len(nodes) // 2
-    pairs = enumerate(zip(nodes, weights))
-    return [(int(place >= half), node, weight) for place, (node, weight) in pairs]

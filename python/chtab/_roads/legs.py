@@ -31,14 +31,6 @@ CELLS = 1 << 20
 FEW = 128
 
 
-def ways_between(starts: Spots, ends: Spots) -> tuple[Integers, Integers]:
-    """The ways from spot k to spot k: pairs of nodes (n, m, 2), and what is added to each."""
-    outs, ins = numpy.broadcast_arrays(starts.out_nodes[:, :, None], ends.in_nodes[:, None, :])
-    added = starts.out_weights[:, :, None] + ends.in_weights[:, None, :]
-    shape = len(outs), outs.shape[1] * outs.shape[2]
-    return numpy.stack([outs, ins], axis=-1).reshape(*shape, 2), added.reshape(shape)
-
-
 def totals(added: Integers, is_there: Marks, between: Integers, along: Integers) -> Integers:
     """The weights of all ways (n, m + 1), the last along a single road; `FAR` for no way."""
     weights = numpy.full((len(added), added.shape[1] + 1), FAR)
@@ -47,8 +39,8 @@ def totals(added: Integers, is_there: Marks, between: Integers, along: Integers)
     return weights
 
 
-class Trace(NamedTuple):
-    """The line of a leg, without repeated places."""
+class Traces(NamedTuple):
+    """The lines of several legs without repeated places: `firsts[k]` to `firsts[k + 1] - 1`."""
 
     # The places in degrees (n, 2), rounded to millionths; the weight and the metres up to each.
     places: Floats
@@ -56,29 +48,7 @@ class Trace(NamedTuple):
     metres: Floats
     # The node at each place, 0 at a bend; before the first node the one behind, at last that ahead.
     nodes: Integers
-
-
-class Traces(NamedTuple):
-    """The traces of several legs: trace k has the places `firsts[k]` to `firsts[k + 1] - 1`."""
-
-    places: Floats
-    weights: Integers
-    metres: Floats
-    nodes: Integers
     firsts: Integers
-
-    def of(self, leg: int) -> Trace:
-        """The trace of one of them."""
-        own = slice(*self.firsts[leg:leg + 2])
-        return Trace(self.places[own], self.weights[own], self.metres[own], self.nodes[own])
-
-    def chosen(self, which: Integers) -> Traces:
-        """Some of them, by an array of their numbers."""
-        counts = numpy.diff(self.firsts)[which]
-        own = ranges(self.firsts[which], counts)
-        return Traces(
-            self.places[own], self.weights[own], self.metres[own], self.nodes[own],
-            numpy.append(0, numpy.cumsum(counts)))
 
 
 class Pieces(NamedTuple):
@@ -214,7 +184,10 @@ def sums_before(column: Any, firsts: Integers) -> Any:
 def weights_of_ways(trips: Trips, starts: Spots, ends: Spots) -> Integers:
     """The weights of all ways from spot k to spot k (n, m + 1): by the nodes out of the first road
     and, for each, those into the last; then along a single road. `FAR` for none."""
-    pairs, added = ways_between(starts, ends)
+    outs, ins = numpy.broadcast_arrays(starts.out_nodes[:, :, None], ends.in_nodes[:, None, :])
+    pairs = numpy.stack([outs, ins], axis=-1).reshape(len(outs), -1, 2)
+    added = starts.out_weights[:, :, None] + ends.in_weights[:, None, :]
+    added = added.reshape(pairs.shape[:2])
     is_there = (pairs > 0).all(axis=2)
     between = trips.engine.distances(pairs[is_there])
     return totals(added, is_there, between, trips.roads.along(starts, ends))
@@ -263,28 +236,13 @@ def many_ways(
     return best, ways
 
 
-def table_weights(trips: Trips, starts: Spots, ends: Spots) -> Integers:
-    """The least weights of `table_ways` alone, which takes less time where there are few."""
-    if not are_few(starts, ends):
-        return table_ways(trips, starts, ends)[0]
-    best: Integers = few_totals(trips, starts, ends, None).min(axis=0)
-    if starts is ends and len({*starts.roads.tolist()}) == len(starts):
-        # Each spot has a road for itself.
-        best.reshape(-1)[::len(starts) + 1] = 0
-    else:
-        stay_on_roads(trips.roads, starts, ends, best, numpy.empty_like(best))
-    best[best > NOWHERE // 2] = FAR
-    return best
-
-
 def are_few(starts: Spots, ends: Spots) -> bool:
     """Whether the weights of all ways of a table take little memory."""
     return 0 < starts.out_nodes.size <= FEW and 0 < ends.in_nodes.size <= FEW
 
 
 def few_totals(trips: Trips, starts: Spots, ends: Spots, within: int | None) -> Integers:
-    """The weights of all ways by nodes from each spot to each (w, k, l), at least `NOWHERE` where
-    there is none. A way's number is its place."""
+    """The weights of all ways by nodes (w, k, l), at least `NOWHERE` where there is none."""
     outs, ins = starts.out_nodes.T, ends.in_nodes.T
     sources, targets = (numpy.maximum(nodes, 1).reshape(-1) for nodes in (outs, ins))
     found = trips.engine.table(sources, targets, within)
@@ -318,8 +276,7 @@ def node_weights(trips: Trips, outs: Integers, ins: Integers, within: int | None
 def least_of(
     totals: Integers, width: int, outs: int, numbers: Integers,
 ) -> tuple[Integers, Integers]:
-    """The least total of each cell, and its way's number: totals are by starts and their `outs`,
-    and by all `width` ends and their ways."""
+    """The least total of each cell, by starts and `outs`, and by ends and their ways."""
     height = len(totals) // outs if outs else 0
     if not (height and width and len(numbers)):
         return numpy.full((1, 1), FAR), numpy.zeros((1, 1), numpy.int64)
@@ -392,19 +349,6 @@ def legs_by(trips: Trips, starts: Spots, ends: Spots, best: Integers, ways: Inte
     return Legs(
         roads, starts, ends, weights, which, over.pairs[:, 0], walks, arcs, over.leaves,
         over.arrives, over.out_weights, over.in_weights, metres)
-
-
-def metres_by(
-    trips: Trips, starts: Spots, rows: Integers, ends: Spots, columns: Integers, best: Integers,
-    ways: Integers,
-) -> Floats:
-    """How long these ways from some of the spots `starts` to as many of `ends` are."""
-    over = between_nodes(starts, rows, ends, columns, best, ways)
-    between, lengths = numpy.zeros(len(best), numpy.int64), numpy.zeros(len(best), numpy.uint64)
-    own = over.pairs[over.is_walk]
-    between[over.is_walk], lengths[over.is_walk] = trips.engine.sums(own, trips.roads.nanometres)
-    over.see_that_right(between, best)
-    return metres_of(trips.roads, starts, rows, ends, columns, over, lengths * NANOMETRE)
 
 
 def metres_of(

@@ -287,13 +287,8 @@ class Pieces:
         unsure = numpy.flatnonzero(self.is_unsure(least, distances[:, -1]) & (not are_all))
         return among.reshape(-1)[best], along.reshape(-1)[best], unsure
 
-    def within(self, places: Floats, distances: Floats) -> Any:
-        """The pieces with a point within a distance of each place, and some others."""
-        return self.tree.query_ball_point(places, distances * (1 + 1e-9) + self.reach + 1e-12)
-
     def feet(self, steps: Integers, places: Floats) -> tuple[Floats, Floats]:
-        """The nearest points of steps to places, one for each or for each row: shares, distances
-        squared."""
+        """The nearest points of steps to places, one for each: shares, distances squared."""
         rows = self.rows.take(steps, axis=0)
         east, north = rows[..., 2], rows[..., 3]
         x, y = places[..., 0] - rows[..., 0], places[..., 1] - rows[..., 1]

@@ -34,8 +34,7 @@ FEW = 8
 
 
 def samples(network_roads: Roads, times: Integers, spacing: float) -> tuple[Floats, Floats]:
-    """Points of roads in the plane, at most `spacing` apart, and the weights at which they are
-    reached, by the `times` of nodes, -1 if they aren't."""
+    """Points of roads in the plane, at most `spacing` apart, and the weights up to there."""
     arcs, ends, parts = network_roads.segments()
     firsts = times[network_roads.tails[arcs] - 1]
     kept = (firsts >= 0) & ~numpy.isnan(ends).any(axis=1)
@@ -57,7 +56,7 @@ def start_samples(network_roads: Roads, spot: Spots, spacing: float) -> tuple[Fl
     for end, weight in (0.0, network_roads.backward[road]), (1.0, network_roads.forward[road]):
         if weight == NONE:
             end = part
-        line = mercator(*network_roads.stretch(road, part, end).T)
+        line = mercator(*network_roads.lines.stretch(road, part, end).T)
         steps = numpy.concatenate([[0.0], numpy.cumsum(numpy.hypot(*numpy.diff(line, axis=0).T))])
         wanted = numpy.linspace(0, steps[-1], int(steps[-1] / spacing) + 2)
         at = numpy.column_stack([numpy.interp(wanted, steps, line[:, axis]) for axis in (0, 1)])

@@ -43,7 +43,11 @@ class RowLabels:
         counts = found.counts(len(wanted))
         missing, several = columns.first_of(counts == 0), columns.first_of(counts > 1)
         if missing is not None and columns.is_integer(type(label_of(wanted, missing))):
-            raise refused(name, missing, self.why_missing(label_of(wanted, missing)))
+            text = f"nothing says which row is called {quoted(label_of(wanted, missing))}: give"
+            text += " an array, or a list, in the order of rows"
+            if self.covered:
+                text = f"no row of the frame is called {quoted(label_of(wanted, missing))}"
+            raise refused(name, missing, text)
         if missing is None and several is not None:
             called = quoted(label_of(wanted, several))
             raise refused(name, several, f"{counts[several]} rows of the frame are called {called}")
@@ -57,13 +61,6 @@ class RowLabels:
             numbers = numpy.fromiter(map(codes.__getitem__, both), numpy.int64, len(both))
             labels, wanted = numbers[:len(labels)], numbers[len(labels):]
         return Groups.of(labels).of_each(wanted)
-
-    def why_missing(self, label: int) -> str:
-        """Why a number names no row."""
-        if self.covered:
-            return f"no row of the frame is called {quoted(label)}"
-        text = f"nothing says which row is called {quoted(label)}"
-        return f"{text}: give an array, or a list, in the order of rows"
 
     def see_that_plain(self, name: str, places: Integers, rows: Integers) -> None:
         """Refuses the first number of a row that is also what another row is called."""

@@ -29,8 +29,7 @@ NO_FRACTION = ", as the weights of this network are"
 def arcs_of(
     layers: Layers, measure: measures.Measure, weights: Any, closed: Any, added: Any
 ) -> arc_columns.Arcs:
-    """The arcs of a network with other weights, and without closed or with added arcs;
-    `Network.changed` explains each."""
+    """The arcs of a network that is changed, as `Network.changed` explains it."""
     weighing = weighing_of(layers, measure, weights is not None or added is not None)
     given = Given.of(layers)
     changed, rounding = given.reweighted(weights, weighing)
@@ -43,21 +42,15 @@ def weighing_of(layers: Layers, measure: measures.Measure, has_weights: bool) ->
     made = layers.labelling
     own = None if made is None else made.scale
     if (
-        has_weights
-        and made is not None
-        and made.unit is None
-        and own not in (None, 1)
+        has_weights and made is not None and made.unit is None and own not in (None, 1)
         and layers.asked == measures.Asked()
     ):
         text = (
             f"the network was made with scale={own:g} and without a unit, so that new weights may "
-            "be yours, or the graph's whole numbers"
-        )
+            "be yours, or the graph's whole numbers")
         raise DataFault(
             f"{text}: make it with unit='seconds' or another unit, or with raw=True for whole "
-            "numbers",
-            "weights",
-        )
+            "numbers", "weights")
     is_rounded = own == 1 or made is not None and made.unit is not None
     whole = 1 if is_rounded and not layers.asked.raw else None
     most = arc_columns.MOST_WEIGHT // files.count_nodes(layers.path)
@@ -75,8 +68,7 @@ class Weighing(NamedTuple):
     def whole(self, name: str, given: Any) -> tuple[Integers, float]:
         """The weights of the graph, and the largest rounding of one."""
         return arc_columns.whole_weights(
-            name, self.numbers(name, given), self.scale, self.most, NO_FRACTION
-        )
+            name, self.numbers(name, given), self.scale, self.most, NO_FRACTION)
 
     def numbers(self, name: str, given: Any) -> NDArray[Any]:
         """Weights as numbers in the network's unit, to which durations are converted."""
@@ -86,9 +78,7 @@ class Weighing(NamedTuple):
         if self.measure.unit not in measures.TIMES:
             raise DataFault(
                 f"{name} has durations, and the network's unit is "
-                f"{self.measure.unit or 'not known'}",
-                name,
-            )
+                f"{self.measure.unit or 'not known'}", name)
         return durations / measures.TIMES[self.measure.unit]
 
 
@@ -124,8 +114,8 @@ class Given(NamedTuple):
         """The arcs of the files of a network."""
         graph = layers.graph
         tails, heads, weights = (
-            numpy.array(column, numpy.int64) for column in (graph.tails, graph.heads, graph.weights)
-        )
+            numpy.array(column, numpy.int64)
+            for column in (graph.tails, graph.heads, graph.weights))
         return cls(layers, ArcNames(layers), tails, heads, weights, layers.rows)
 
     @property
@@ -136,8 +126,7 @@ class Given(NamedTuple):
     # What is closed.
 
     def marked(self, closed: Any) -> Marks:
-        """Marks the arcs that are closed, by a list of names or by a column that says so of each
-        row."""
+        """Marks the arcs that a list of names or a column of rows closes."""
         is_closed = numpy.zeros(len(self.rows), bool)
         if closed is None:
             return is_closed
@@ -145,13 +134,11 @@ class Given(NamedTuple):
             what = "one way or street" if isinstance(closed, str) else "one row"
             raise DataFault(f"closed is a list: [{closed!r}] is {what}", "closed")
         if (
-            isinstance(closed, tuple)
-            and len(closed) in (1, 2, 3)
+            isinstance(closed, tuple) and len(closed) in (1, 2, 3)
             and not any(isinstance(part, tuple | list | Spots) for part in closed)
         ):
             raise DataFault(
-                f"closed is a list: [{closed!r}] is one arc, and {[*closed]!r} are rows", "closed"
-            )
+                f"closed is a list: [{closed!r}] is one arc, and {[*closed]!r} are rows", "closed")
         column = mask_in(closed)
         if column is None:
             is_closed[self.names.of("closed", closed).items] = True
@@ -174,21 +161,17 @@ class Given(NamedTuple):
         if column.ndim != 1 or len(column) != self.row_count:
             raise DataFault(
                 f"{name} has the shape {column.shape}, and there are {self.row_count:,} rows of "
-                "arcs",
-                name,
-            )
+                "arcs", name)
 
     def see_that_once(self, name: str, index: Any) -> None:
-        """Refuses an index that has a label twice, unless it is that of the frame, where its place
-        says which row is meant."""
+        """Refuses an index with a label twice, unless its places say which rows are meant."""
         if index.is_unique:
             return
         rows = self.names.rows_of_index(name, index)
         if rows is None or len(numpy.unique(rows.items)) < len(rows.items):
             place = int(index.duplicated().argmax())
             raise columns.refused(
-                name, place, f"the label {quoted(index[place])} is in the index already"
-            )
+                name, place, f"the label {quoted(index[place])} is in the index already")
 
     # What is weighed anew.
 
@@ -197,15 +180,13 @@ class Given(NamedTuple):
         if weights is None:
             return self, 0.0
         whole, rounding = weighing.whole(
-            "weights", list(weights.values()) if isinstance(weights, Mapping) else weights
-        )
+            "weights", list(weights.values()) if isinstance(weights, Mapping) else weights)
         if isinstance(weights, Mapping):
             found = self.names.of_list("weights", list(weights))
             closed = columns.first_of(found.counts(len(weights)) == 0)
             if closed is not None:
                 raise columns.refused(
-                    "weights", closed, f"{quoted(list(weights)[closed])} has no arc that is open"
-                )
+                    "weights", closed, f"{quoted(list(weights)[closed])} has no arc that is open")
         elif hasattr(weights, "iloc"):
             found = self.names.of_index("weights", weights.index)
             self.see_that_once("weights", weights.index)
@@ -220,20 +201,17 @@ class Given(NamedTuple):
     # What is added.
 
     def added(self, given: Any, weighing: Weighing) -> New:
-        """The arcs that are added to these. Where turns are restricted, all that arrive may go on
-        by an added arc."""
+        """The arcs that are added, by which all that arrive at their sources may go on."""
         if given is None:
             return New(NOTHING, NOTHING, NOTHING, NOTHING, 0, None, [], 0.0)
         sources, targets, weights, lines = columns_of_added(given)
         own = self.layers.labels
         tails, heads = (
             self.layers.crossings[own.nodes_of(f"added {name}", ends)]
-            for name, ends in (("source", sources), ("target", targets))
-        )
+            for name, ends in (("source", sources), ("target", targets)))
         whole, rounding = weighing.whole("added weight", weights)
         columns.see_that_long(
-            ("added source", "added target", "added weight"), (tails, heads, whole)
-        )
+            ("added source", "added target", "added weight"), (tails, heads, whole))
         found = edge_lines.lines_in("added geometry", lines, len(whole))
         keys = self.free_keys(tails, heads)
         # Arcs leave a node of restricted turns for those that start there, and the node where trips
@@ -242,19 +220,11 @@ class Given(NamedTuple):
         rows = numpy.append(numpy.arange(len(tails)), numpy.flatnonzero(ends))
         starts = numpy.append(tails, ends[ends > 0])
         return New(
-            starts,
-            heads[rows],
-            whole[rows],
-            rows,
-            len(tails),
-            found and [found[row] for row in rows.tolist()],
-            keys,
-            rounding,
-        )
+            starts, heads[rows], whole[rows], rows, len(tails),
+            found and [found[row] for row in rows.tolist()], keys, rounding)
 
     def free_keys(self, tails: Integers, heads: Integers) -> list[int]:
-        """A key for each new edge, as networkx gives it: the number of edges between its nodes, or
-        the first one from there on that is free. None if edges have no keys."""
+        """A key for each new edge, as networkx gives it; none if edges have no keys."""
         if self.names.keys is None:
             return []
         found = self.names.by_ends.of_each(self.names.key_of(tails, heads))
@@ -276,10 +246,8 @@ class Given(NamedTuple):
         """The kept arcs, followed by the new ones."""
         layers, labelling = self.layers, self.layers.labelling
         scale, unit, before = (
-            (None, None, 0.0)
-            if labelling is None
-            else (labelling.scale, labelling.unit, labelling.rounding)
-        )
+            (None, None, 0.0) if labelling is None
+            else (labelling.scale, labelling.unit, labelling.rounding))
         keys = None if self.names.keys is None else [*self.names.keys.tolist(), *new.keys]
         streets, ways = layers.streets, layers.ways
         if streets is not None:
@@ -288,37 +256,18 @@ class Given(NamedTuple):
         if ways is not None:
             ways = numpy.append(ways[kept], numpy.zeros(len(new.tails), numpy.int64))
         tails, heads, weights = (
-            numpy.append(column[kept], more)
-            for column, more in (
-                (self.tails, new.tails),
-                (self.heads, new.heads),
-                (self.weights, new.weights),
-            )
-        )
+            numpy.append(column[kept], more) for column, more in (
+                (self.tails, new.tails), (self.heads, new.heads), (self.weights, new.weights)))
         no_way: list[int] = []
         of_rows = (
-            None
-            if labelling is None or labelling.ways is None
-            else [*labelling.ways, *[no_way] * new.added]
-        )
+            None if labelling is None or labelling.ways is None
+            else [*labelling.ways, *[no_way] * new.added])
         return arc_columns.Arcs(
-            layers.labels,
-            tails,
-            heads,
-            weights,
-            scale,
-            max(before, rounding, new.rounding),
-            unit,
-            None,
-            self.bends(kept, new),
-            self.row_count + new.added,
-            self.rows_of(kept, new),
-            keys,
-            of_rows,
-            layers.graph.unit,
+            layers.labels, tails, heads, weights, scale, max(before, rounding, new.rounding), unit,
+            None, self.bends(kept, new), self.row_count + new.added, self.rows_of(kept, new), keys,
+            of_rows, layers.graph.unit,
             making.Beside(layers, streets, None if ways is None else ways.tolist()),
-            layers.row_labels.labels,
-        )
+            layers.row_labels.labels)
 
     def rows_of(self, kept: Marks, new: New) -> Integers | None:
         """The row of each arc; None if arcs have the same rows as by their numbers."""
@@ -331,8 +280,7 @@ class Given(NamedTuple):
         """The bends of the kept arcs, by their new numbers, and those of the new arcs."""
         numbers = numpy.cumsum(kept) - 1
         bends = {
-            int(numbers[arc]): points for arc, points in self.layers.bends.items() if kept[arc]
-        }
+            int(numbers[arc]): points for arc, points in self.layers.bends.items() if kept[arc]}
         if new.lines is None:
             return bends
         coordinates = self.layers.coordinates
@@ -342,8 +290,7 @@ class Given(NamedTuple):
 
 
 def order_of(layers: Layers, order: Any) -> bytes | str | None:
-    """What names an order in which weights are customized: the path of a file, or the lines of
-    nodes in order. None for the order that is found."""
+    """What names an order of the nodes: the path of a file, or its lines; or None."""
     if order is None:
         return None
     if isinstance(order, str | os.PathLike):
@@ -363,9 +310,7 @@ def mask_in(closed: Any) -> NDArray[Any] | None:
         return None
     column = numpy.asarray(closed)
     if (
-        column.dtype == object
-        and column.ndim == 1
-        and len(column)
+        column.dtype == object and column.ndim == 1 and len(column)
         and {*map(type, column)} <= {bool, numpy.bool_}
     ):
         column = column.astype(bool)
@@ -376,13 +321,11 @@ def columns_of_added(given: Any) -> tuple[Any, Any, Any, Any]:
     """The sources, targets, weights and lines of added arcs; None for no lines."""
     if hasattr(given, "columns"):
         sources, targets, weights = (
-            column_of(given, name) for name in ("source", "target", "weight")
-        )
+            column_of(given, name) for name in ("source", "target", "weight"))
         return sources, targets, weights, given["geometry"] if "geometry" in given.columns else None
     rows = [tuple(row) for row in given]
     if any(len(row) not in (3, 4) for row in rows):
         raise DataFault(
-            "added has rows of (source, target, weight), or of these and a line", "added"
-        )
+            "added has rows of (source, target, weight), or of these and a line", "added")
     sources, targets, weights = ([row[axis] for row in rows] for axis in range(3))
     return sources, targets, weights, [row[3] if len(row) == 4 else None for row in rows]

@@ -8,7 +8,6 @@ which turns are open to it.
 """
 from __future__ import annotations
 
-import copy
 import hashlib
 import math
 import numbers
@@ -261,17 +260,6 @@ class Roads:
         least[least == numpy.iinfo(numpy.int64).max] = NONE
         self.forward, self.backward = least
 
-    def weighed(self, weights: Integers) -> Roads:
-        """The same roads with other weights of their arcs. Spots of these are no spots of those."""
-        other = copy.copy(self)
-        other.weights = numpy.array(weights, numpy.int64)
-        other.find_ways()
-        for column in (other.weights, other.forward, other.backward):
-            column.flags.writeable = False
-        before = numpy.frombuffer(self.origin.roads, numpy.uint8)
-        other.origin = self.origin._replace(roads=digest_of(before, other.weights))
-        return other
-
     def __len__(self) -> int:
         return len(self.firsts)
 
@@ -312,30 +300,18 @@ class Roads:
         """Does the same for places at any distance from roads."""
         self.see_that_some()
         x, y = numpy.asarray(longitudes, float), numpy.asarray(latitudes, float)
-        if 0 < len(x) <= FEW:
-            return self.few_spots(x.tolist(), y.tolist(), self.lines.nearest_few(x, y))
-        return self.spots_at(x, y, *self.lines.nearest(x, y))
-
-    def few_spots(
-        self, longitudes: Sequence[float], latitudes: Sequence[float], found: Sequence[OnLine],
-    ) -> Spots:
-        """The spots of a few places at these points of roads, as `spots_at` makes them of many."""
-        few = self.few_on(longitudes, latitudes, found)
-        nodes, weights = (numpy.array(column) for column in list(zip(*few))[6:8])
-        x, y, metres, roads, parts = (numpy.array(column) for column in list(zip(*few))[:5])
-        places = numpy.column_stack([longitudes, latitudes])
-        return self.spots_by(x, y, metres, roads, parts, nodes, weights, places)
-
-    def few(self, longitudes: Sequence[float], latitudes: Sequence[float]) -> list[Few]:
-        """The spots of a few places, one by one."""
-        self.see_that_some()
-        found = self.lines.nearest_few(numpy.array(longitudes), numpy.array(latitudes))
-        return self.few_on(longitudes, latitudes, found)
+        if not 0 < len(x) <= FEW:
+            return self.spots_at(x, y, *self.lines.nearest(x, y))
+        few = self.few_on(x.tolist(), y.tolist(), self.lines.nearest_few(x, y))
+        columns = [numpy.array(column) for column in zip(*few)]
+        at_x, at_y, metres, roads, parts, _, nodes, weights = columns
+        places = numpy.column_stack([x, y])
+        return self.spots_by(at_x, at_y, metres, roads, parts, nodes, weights, places)
 
     def few_on(
         self, longitudes: Sequence[float], latitudes: Sequence[float], found: Sequence[OnLine],
     ) -> list[Few]:
-        """The same at these points of roads."""
+        """The spots of a few places at these points of roads, one by one."""
         roads, ways, few = [each.line for each in found], self.ways, []
         lengths = self.lines.metres.take(roads).tolist()
         columns = (column.take(roads, axis=0).tolist() for column in (ways.nodes, ways.weights))
@@ -351,7 +327,7 @@ class Roads:
                 shares = (1 - part if is_last else part for is_last in self.is_last)
                 along = [round(share * weight) for share, weight in zip(shares, weights)]
                 weights = [NONE if node == NONE else own for node, own in zip(nodes, along)]
-            few.append(Few(x, y, metres, road, part, length, nodes, weights, ways.outs))
+            few.append(Few(x, y, metres, road, part, length, nodes, weights))
         return few
 
     def stay_at_node(self, nodes: list[int], weights: list[int], road: int, is_first: bool) -> None:
@@ -457,15 +433,7 @@ class Roads:
         points = found.longitudes, found.latitudes, spots.longitudes, spots.latitudes
         return found, metres_between(*points) <= SAME
 
-    def sides_of(self, arcs: Integers) -> Integers:
-        """The directions in which arcs lead along their roads, `FORWARD` or `BACKWARD`."""
-        return numpy.where(self.is_back[arcs], BACKWARD, FORWARD)
-
     # The lines of roads.
-
-    def stretch(self, road: int, start: float, end: float) -> Floats:
-        """The places of a road from one part of it to another, in degrees (n, 2)."""
-        return self.lines.stretch(road, start, end)
 
     def lines_of(self, starts: Integers, counts: Integers, arcs: Integers) -> list[Floats]:
         """The places along routes (n, 2), perhaps repeated: route k has `counts[k]` of the arcs."""

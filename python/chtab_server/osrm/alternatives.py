@@ -11,7 +11,7 @@ from typing import TYPE_CHECKING, NamedTuple
 
 import numpy
 
-from chtab._engine.walks import Walks, ranges
+from chtab._engine.walks import Walks
 from chtab._near import blocks
 from chtab._near.question import NearQuestion
 from chtab._roads.legs import FAR, Legs
@@ -20,7 +20,7 @@ from chtab._roads.snapping import NANOMETRE, NONE
 if TYPE_CHECKING:
     from chtab._roads.snapping import Roads, Spots
     from chtab._roads.trips import Trips
-    from chtab.typing import Integers, Marks
+    from chtab.typing import Integers
 
 # How much longer than the best way an alternative may be, and each detour of it; how much of the
 # best way it may share; and the part of the best way up to which its parts are best ways.
@@ -48,8 +48,7 @@ class Between:
     def __init__(self, trips: Trips, start: Spots, end: Spots) -> None:
         self.trips, self.roads, self.start, self.end = trips, trips.roads, start, end
         (self.outs, self.ins), (self.before, self.behind) = (
-            (start.out_nodes[0], end.in_nodes[0]), (start.out_weights[0], end.in_weights[0])
-        )
+            (start.out_nodes[0], end.in_nodes[0]), (start.out_weights[0], end.in_weights[0]))
 
     def found(self, best: Path, most: int) -> list[Path]:
         """At most so many alternatives to the best way, the best ones first."""
@@ -141,16 +140,15 @@ class Between:
             sides.append((own[totals.argmin(axis=0)], totals.min(axis=0)))
         (outs, come), (ins, go) = sides
         pairs = numpy.concatenate([
-            numpy.column_stack([self.outs[outs], nodes]), numpy.column_stack([nodes, self.ins[ins]])
-        ])
+            numpy.column_stack([self.outs[outs], nodes]),
+            numpy.column_stack([nodes, self.ins[ins]])])
         _, counts, arcs = engine.paths(pairs)
         firsts = numpy.append(0, numpy.cumsum(counts))
         parts = [arcs[first:last] for first, last in zip(firsts, firsts[1:])]
         return [
-            Path(int(come[at] + go[at]), int(outs[at]), int(ins[at]),
-                 numpy.concatenate([parts[at], parts[count + at]]))
-            for at in range(count)
-        ]
+            Path(
+                int(come[at] + go[at]), int(outs[at]), int(ins[at]),
+                numpy.concatenate([parts[at], parts[count + at]])) for at in range(count)]
 
     def are_local(self, paths: list[Path], nodes: Integers, best: int) -> list[bool]:
         """Whether the part of each path from at most `LOCAL` of the best weight before its node to
@@ -169,8 +167,7 @@ class Between:
         known = self.trips.engine.distances(ends)
         return [
             weight == least and len(path.arcs) > 0 and self.is_simple(path)
-            for path, weight, least in zip(paths, weights, known.tolist())
-        ]
+            for path, weight, least in zip(paths, weights, known.tolist())]
 
     def is_simple(self, path: Path) -> bool:
         """Whether a path leads along no road twice, in whichever direction."""
@@ -201,9 +198,10 @@ class Between:
         keys = numpy.where(of_arcs == NONE, -1 - path.arcs, 2 * of_arcs + roads.is_back[path.arcs])
         first = 2 * self.start.roads + (path.out < half)
         last = 2 * self.end.roads + (2 * path.into >= len(self.ins))
-        return numpy.concatenate([first, keys, last]), numpy.concatenate([
-            self.before[[path.out]], roads.weights[path.arcs], self.behind[[path.into]]
-        ])
+        return (
+            numpy.concatenate([first, keys, last]),
+            numpy.concatenate([
+                self.before[[path.out]], roads.weights[path.arcs], self.behind[[path.into]]]))
 
 
 def chains(count: int, tails: Integers, heads: Integers) -> Integers:
@@ -238,8 +236,7 @@ def legs_of(roads: Roads, start: Spots, end: Spots, paths: list[Path]) -> Legs:
     return Legs(
         roads, starts, ends, weights, numpy.ones(count, bool), start.out_nodes[0, outs], walks,
         arcs, leaves, arrives, start.out_weights[0, outs], end.in_weights[0, ins],
-        first + middle + last,
-    )
+        first + middle + last)
 
 
 def alternatives(trips: Trips, legs: Legs, leg: int, most: int) -> Legs | None:

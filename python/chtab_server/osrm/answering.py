@@ -9,12 +9,11 @@ from typing import TYPE_CHECKING, Any, NamedTuple
 import numpy
 
 from chtab_maps import profiles
-from chtab._roads.legs import FAR, legs_between, legs_by, metres_by, table_ways, table_weights
+from chtab._roads.legs import FAR, legs_between, legs_by, table_ways
 from chtab._roads.lines import metres_between
 from chtab._roads.snapping import length_text
 from chtab_server.osrm import (
-    alternatives, cells, curb, lone, matching, nearby, options, telling, tours, url,
-)
+    alternatives, cells, curb, lone, matching, nearby, options, tables, telling, tours, url)
 from chtab_server.osrm.crossings import Crossings
 from chtab_server.osrm.drawing import Drawing
 from chtab_server.osrm.options import Refusal
@@ -39,13 +38,14 @@ MILLISECONDS = 1_000
 TENTHS = 10
 # Degrees are given in millionths.
 MILLIONTHS = 1_000_000
-# Characters of a coordinate with seven digits behind the point, and of what else stands in an address.
+# Characters of a coordinate with seven digits behind the point, and of what else stands in an
+# address.
 OF_COORDINATE, OF_ADDRESS = 28, 4_096
 
 
 class Limits(NamedTuple):
-    """What one request may ask for: coordinates of each service, cells of a table and those with distances, whose routes have to be found, and
-    roads of nearest."""
+    """What one request may ask for: coordinates of each service, cells of a table and those with
+    distances, whose routes have to be found, and roads of nearest."""
 
     route: int = 500
     table: int = 1_000
@@ -58,7 +58,8 @@ class Limits(NamedTuple):
     @property
     def address(self) -> int:
         """The characters of an address."""
-        return max(32_768, OF_ADDRESS + OF_COORDINATE * max(self.route, self.table, self.trip, self.match))
+        return max(
+            32_768, OF_ADDRESS + OF_COORDINATE * max(self.route, self.table, self.trip, self.match))
 
     def coordinates(self, service: str) -> int:
         return 1 if service == "nearest" else int(getattr(self, service))
@@ -88,21 +89,27 @@ def coordinates_of(questions: Sequence[Question]) -> list[Point]:
 
 
 def profile_of(comments: Sequence[str]) -> str:
-    """The way of travelling that a graph was made for, from its comments; empty if they don't say."""
+    """The way of travelling that a graph was made for, from its comments; empty if they don't
+    say."""
     for name in profiles.NAMES:
-        if any(comment.startswith(f"Roads for {profiles.profile(name).people},") for comment in comments):
+        if any(
+            comment.startswith(f"Roads for {profiles.profile(name).people},")
+            for comment in comments
+        ):
             return name
     return ""
 
 
 class Answers:
     """Answers by a network. Clients may call it by each of the names `profiles`, and where there is
-    none by any name. `streets` are what its arcs are called, `files.Streets` or None, `numbers` what
-    the map calls its nodes, or None, and `crossings` those of its roads, if they are made already."""
+    none by any name. `streets` are what its arcs are called, `files.Streets` or None, `numbers`
+    what the map calls its nodes, or None, and `crossings` those of its roads, if they are made
+    already."""
 
     def __init__(
-        self, network: Network, profiles: Sequence[str] = (), limits: Limits = Limits(), streets: files.Streets | None = None,
-        numbers: Integers | None = None, crossings: Crossings | None = None,
+        self, network: Network, profiles: Sequence[str] = (), limits: Limits = Limits(),
+        streets: files.Streets | None = None, numbers: Integers | None = None,
+        crossings: Crossings | None = None,
     ) -> None:
         coordinates = network.coordinates
         crossings = crossings or Crossings(network.roads, coordinates.copies(), streets)
@@ -110,7 +117,8 @@ class Answers:
         mode = MODES.get(profile_of(coordinates.comments), "driving")
         self.is_straight_by_default = mode == MODES["car"]
         steps = Steps(crossings, mode)
-        drawings = {form: Drawing(network.roads.lines, network.nodes, form) for form in options.FORMS}
+        drawings = {
+            form: Drawing(network.roads.lines, network.nodes, form) for form in options.FORMS}
         self.voice = telling.Voice(steps, numbers, drawings)
         self.places = Places(network.roads, self.waypoint)
 
@@ -125,9 +133,12 @@ class Answers:
     def question(self, words: url.Words) -> Question:
         """The question of a request, which is read before anything is looked up."""
         if self.network.unit != "milliseconds":
-            raise Refusal("InvalidService", "the weights of this network are not milliseconds, so that it has no durations")
+            raise Refusal(
+                "InvalidService",
+                "the weights of this network are not milliseconds, so that it has no durations")
         if self.profiles and words.profile not in self.profiles:
-            raise Refusal("InvalidValue", f"the profile of this network is {' or '.join(self.profiles)}")
+            raise Refusal(
+                "InvalidValue", f"the profile of this network is {' or '.join(self.profiles)}")
         coordinates = url.coordinates_of(words.coordinates, self.limits.coordinates(words.service))
         general, own = options.read(words.service, words.query, len(coordinates))
         question = Question(words.service, coordinates, general, own)
@@ -143,7 +154,9 @@ class Answers:
         if question.service == "table":
             most = limits.cells_with_distances if own.has_distances else limits.cells
             if len(own.sources) * len(own.destinations) > most:
-                raise Refusal("TooBig", f"a table{' with distances' * own.has_distances} has at most {most:,} cells")
+                raise Refusal(
+                    "TooBig",
+                    f"a table{' with distances' * own.has_distances} has at most {most:,} cells")
 
     # Where coordinates are taken to.
 
@@ -159,20 +172,29 @@ class Answers:
             if general.has_curbs and fault is None:
                 spots, fault = self.at_curbs(spots, question, first)
             if general.has_radiuses:
-                fault = fault or far_fault(spots.metres[first:first + len(question.coordinates)], general.radiuses)
+                metres = spots.metres[first:first + len(question.coordinates)]
+                fault = fault or far_fault(metres, general.radiuses)
             if fault:
                 faults[place] = fault
             first += len(question.coordinates)
         return Taken(spots, waypoints if spots is known else self.waypoints(spots), faults)
 
-    def at_curbs(self, spots: Spots, question: Question, first: int) -> tuple[Spots, Refusal | None]:
-        """The spots, of which those of a question that are to be at the curb are left and reached on the side of the road where their coordinate lies;
-        and the fault where a direction that is asked for leads along the other side. The spots of the question begin at `first`."""
+    def at_curbs(
+        self, spots: Spots, question: Question, first: int,
+    ) -> tuple[Spots, Refusal | None]:
+        """The spots, of which those of a question that are to be at the curb are left and reached
+        on the side of the road where their coordinate lies; and the fault where a direction that is
+        asked for leads along the other side. The spots of the question begin at `first`."""
         which = first + numpy.flatnonzero(question.general.are_at_curb)
         places = numpy.array(question.coordinates)[which - first]
-        own = curb.at_curb(self.network.roads, spots[which], places, self.voice.steps.known.side == "left")
+        own = curb.at_curb(
+            self.network.roads, spots[which], places, self.voice.steps.known.side == "left")
         if not own.sides.all():
-            return spots, Refusal("NoSegment", "no road leads in the direction of a coordinate on its side of the road")
+            return (
+                spots,
+                Refusal(
+                    "NoSegment",
+                    "no road leads in the direction of a coordinate on its side of the road"))
         every, places = matching.together([spots, own]), numpy.arange(len(spots))
         places[which] = len(spots) + numpy.arange(len(which))
         return every[places], None
@@ -202,8 +224,7 @@ class Answers:
     def routes(self, questions: Sequence[Question]) -> list[str | Refusal]:
         """The answers to questions for routes, as texts or refusals."""
         are_lone = [
-            lone.is_lone(each.general, each.own, len(each.coordinates)) for each in questions
-        ]
+            lone.is_lone(each.general, each.own, len(each.coordinates)) for each in questions]
         if all(are_lone):
             return self.lone_routes(questions)
         if not any(are_lone):
@@ -220,23 +241,30 @@ class Answers:
         cuts = numpy.cumsum([0, *(len(question.coordinates) for question in questions)]).tolist()
         # A leg leads from each spot to the next one, but from the last of a question.
         firsts = numpy.delete(numpy.arange(len(spots)), numpy.array(cuts[1:]) - 1)
-        which = [list(range(first - place, last - place - 1)) for place, (first, last) in enumerate(zip(cuts, cuts[1:]))]
-        straight = [part for part, question in zip(which, questions) if self.is_straight(question.own)]
+        which = [
+            list(range(first - place, last - place - 1))
+            for place, (first, last) in enumerate(zip(cuts, cuts[1:]))]
+        straight = [
+            part for part, question in zip(which, questions) if self.is_straight(question.own)]
         starts, ends = spots[firsts], spots[firsts + 1]
-        legs = legs_by(self.network._trips, starts, ends, *straight_ways(self.network._trips, starts, ends, straight))
+        legs = legs_by(
+            self.network._trips, starts, ends,
+            *straight_ways(self.network._trips, starts, ends, straight))
         if legs.weights.min(initial=0) < 0:
             for place, some in enumerate(which):
                 if place not in faults and (legs.weights[some] < 0).any():
                     faults[place] = Refusal("NoRoute", NO_ROUTE)
-        told = [place for place in range(len(questions)) if place not in faults]
-        texts = dict(zip(told, self.route_texts(legs, [which[place] for place in told], [questions[place].own for place in told])))
-        for place in told:
+        valid = [place for place in range(len(questions)) if place not in faults]
+        own = [questions[place].own for place in valid]
+        texts = dict(zip(valid, self.route_texts(legs, [which[place] for place in valid], own)))
+        for place in valid:
             if questions[place].own.alternatives:
                 texts[place] += self.others(legs, which[place][0], questions[place].own)
         return [
-            faults.get(place) or answer_of("routes", texts[place], "waypoints", objects(chosen(waypoints, cuts[place], question), question.general))
-            for place, question in enumerate(questions)
-        ]
+            faults.get(place) or answer_of(
+                "routes", texts[place], "waypoints",
+                objects(chosen(waypoints, cuts[place], question), question.general))
+            for place, question in enumerate(questions)]
 
     def others(self, legs: Legs, leg: int, own: options.Route) -> str:
         """The texts of the alternatives to a route of one leg, each behind a comma."""
@@ -253,15 +281,17 @@ class Answers:
         listed = zip(waypoints[::2], waypoints[1::2])
         return [
             Refusal("NoRoute", NO_ROUTE) if text is None
-            else answer_of("routes", text, "waypoints", objects(told, question.general))
-            for text, told, question in zip(texts, listed, questions)
-        ]
+            else answer_of("routes", text, "waypoints", objects(described, question.general))
+            for text, described, question in zip(texts, listed, questions)]
 
     def is_straight(self, own: options.Route) -> bool:
-        """Whether a route goes straight on at its stops: by default those of cars do, as OSRM has it."""
+        """Whether a route goes straight on at its stops: by default those of cars do, as OSRM has
+        it."""
         return self.is_straight_by_default if own.is_straight is None else own.is_straight
 
-    def route_texts(self, legs: Legs, parts: Sequence[list[int]], own: Sequence[options.Route]) -> list[str]:
+    def route_texts(
+        self, legs: Legs, parts: Sequence[list[int]], own: Sequence[options.Route],
+    ) -> list[str]:
         """The texts of routes, each over a part of the legs and with its own options."""
         return telling.routes(self.voice, legs, parts, own)
 
@@ -272,47 +302,59 @@ class Answers:
         own, general = question.own, question.general
         spots, waypoints, _ = self.own_spots(question)
         best, _ = table_ways(self.network._trips, spots, spots)
-        order = tours.tour(numpy.where(best < FAR, best, -1), own.is_round, own.is_first_fixed, own.is_last_fixed)
+        order = tours.tour(
+            numpy.where(best < FAR, best, -1), own.is_round, own.is_first_fixed, own.is_last_fixed)
         stops = spots[numpy.append(order, order[:1]) if own.is_round else order]
         legs = legs_between(self.network._trips, stops[:-1], stops[1:])
         if (legs.weights < 0).any():
             raise Refusal("NoTrips", "no way leads over all coordinates")
         [text] = self.route_texts(legs, [list(range(len(legs)))], [own.route])
         ranks = numpy.argsort(order).tolist()
-        told = [
+        described = [
             f'{each}, "trips_index": 0, "waypoint_index": {rank}'
-            for each, rank in zip(waypoints, ranks)
-        ]
-        return answer_of("trips", text, "waypoints", objects(told, general))
+            for each, rank in zip(waypoints, ranks)]
+        return answer_of("trips", text, "waypoints", objects(described, general))
 
     def match(self, question: Question) -> str:
         """The answer to a question for the likeliest roads of a track."""
         own, general = question.own, question.general
-        track = matching.Track(numpy.array(question.coordinates), general.radiuses, own.timestamps, general.bearings)
+        track = matching.Track(
+            numpy.array(question.coordinates), general.radiuses, own.timestamps, general.bearings)
         parts = matching.matched(self.network._trips, track, own.is_parted, own.is_tidied)
         if not parts:
             raise Refusal("NoMatch", "no roads lead along the coordinates")
         left_out = {*(own.route.waypoints or ())}.difference(*(part.places for part in parts))
         if left_out:
             raise Refusal("NoMatch", f"no roads lead along coordinate {min(left_out)}, a waypoint")
-        starts, ends = (matching.together([part.spots[some] for part in parts]) for some in (slice(-1), slice(1, None)))
+        starts, ends = (
+            matching.together([part.spots[some] for part in parts])
+            for some in (slice(-1), slice(1, None)))
         legs = legs_between(self.network._trips, starts, ends)
         cuts = numpy.cumsum([0, *(len(part.places) - 1 for part in parts)]).tolist()
         ranges = [list(range(*pair)) for pair in zip(cuts, cuts[1:])]
-        wanted = [own.route._replace(waypoints=ends_of(part, own.route.waypoints)) for part in parts]
+        wanted = [
+            own.route._replace(waypoints=ends_of(part, own.route.waypoints)) for part in parts]
         texts = self.route_texts(legs, ranges, wanted)
-        matchings = ", ".join(f'{text[:-1]}, "confidence": {part.confidence}}}' for text, part in zip(texts, parts))
-        return answer_of("matchings", matchings, "tracepoints", objects(self.tracepoints(question, parts), general))
+        matchings = ", ".join(
+            f'{text[:-1]}, "confidence": {part.confidence}}}' for text, part in zip(texts, parts))
+        return answer_of(
+            "matchings", matchings, "tracepoints",
+            objects(self.tracepoints(question, parts), general))
 
     def tracepoints(self, question: Question, parts: Sequence[matching.Part]) -> list[str | None]:
-        """Where each coordinate was taken to, as the inside of an object of JSON; None for one that was left out."""
+        """Where each coordinate was taken to, as the inside of an object of JSON; None for one that
+        was left out."""
         found: list[str | None] = [None] * len(question.coordinates)
         for number, part in enumerate(parts):
             ends = ends_of(part, question.own.route.waypoints) or range(len(part.places))
             ranks = {index: rank for rank, index in enumerate(ends)}
-            for index, (place, each, others) in enumerate(zip(part.places, self.waypoints(part.spots), part.others)):
+            for index, (place, each, others) in enumerate(
+                zip(part.places, self.waypoints(part.spots), part.others)
+            ):
                 rank = ranks.get(index, "null")
-                found[place] = f'{each}, "matchings_index": {number}, "waypoint_index": {rank}, "alternatives_count": {others}'
+                found[place] = (
+                    f'{each}, "matchings_index": {number}, "waypoint_index": {rank}, '
+                    f'"alternatives_count": {others}')
         return found
 
     # Tables.
@@ -331,16 +373,21 @@ class Answers:
         """The durations of a table, the metres of the routes that these are of, or both."""
         own, general = question.own, question.general
         spots, waypoints, _ = self.own_spots(question)
-        starts, ends = (spots if some == list(range(len(spots))) else spots[some] for some in (own.sources, own.destinations))
+        starts, ends = (
+            spots if some == list(range(len(spots))) else spots[some]
+            for some in (own.sources, own.destinations))
         best, metres = self.weights_and_metres(starts, ends, own.has_distances)
         is_there, parts = best < FAR, []
         if own.fallback is not None:
             straight = straight_lines(question, starts, ends)
-            best, told = numpy.where(is_there, best, straight / own.fallback * MILLISECONDS), numpy.argwhere(~is_there).tolist()
-            metres, is_there = None if metres is None else numpy.where(is_there, metres, straight), numpy.ones_like(is_there)
-            parts.append(f'"fallback_speed_cells": {json.dumps(told)}')
+            best = numpy.where(is_there, best, straight / own.fallback * MILLISECONDS)
+            missing = numpy.argwhere(~is_there).tolist()
+            metres = None if metres is None else numpy.where(is_there, metres, straight)
+            is_there = numpy.ones_like(is_there)
+            parts.append(f'"fallback_speed_cells": {json.dumps(missing)}')
         if own.has_durations:
-            parts.append(f'"durations": {rows_of(best * own.scale if own.scale != 1 else best, 3, is_there)}')
+            scaled = best if own.scale == 1 else best * own.scale
+            parts.append(f'"durations": {rows_of(scaled, 3, is_there)}')
         if metres is not None:
             parts.append(f'"distances": {rows_of(metres * TENTHS, 1, is_there)}')
         if general.has_waypoints:
@@ -354,7 +401,7 @@ class Answers:
         """The weight of the best way of each cell, `FAR` where there is none, and its metres, if
         they are asked for."""
         if not has_metres:
-            return table_weights(self.network._trips, starts, ends), None
+            return tables.table_weights(self.network._trips, starts, ends), None
         best, ways = table_ways(self.network._trips, starts, ends)
         return best, self.metres(starts, ends, best, ways)
 
@@ -364,7 +411,9 @@ class Answers:
         metres = numpy.zeros(best.shape)
         for first in range(0, len(rows), BATCH):
             row, column = rows[first:first + BATCH], columns[first:first + BATCH]
-            metres[row, column] = metres_by(self.network._trips, starts, row, ends, column, best[row, column], ways[row, column])
+            metres[row, column] = tables.metres_by(
+                self.network._trips, starts, row, ends, column, best[row, column],
+                ways[row, column])
         return metres
 
     # The nearest roads.
@@ -387,8 +436,10 @@ class Answers:
     def nearest_ones(self, questions: Sequence[Question]) -> list[str | Refusal]:
         """The answers to questions for the one nearest road, as texts or faults, found together."""
         spots, waypoints, faults = self.spots_of(questions)
-        told = self.with_nodes(spots, waypoints)
-        return [faults.get(place) or nearest_answer([told[place]], question.general) for place, question in enumerate(questions)]
+        described = self.with_nodes(spots, waypoints)
+        return [
+            faults.get(place) or nearest_answer([described[place]], question.general)
+            for place, question in enumerate(questions)]
 
     def with_nodes(self, spots: Spots, waypoints: Sequence[str]) -> list[str]:
         """The waypoints of spots with the numbers of the nodes at both ends of each road."""
@@ -402,14 +453,17 @@ class Answers:
 
 
 def answer_of(name: str, texts: str, more: str, listed: str | None) -> str:
-    """The text of an answer: the objects of its main list, and another list, None where it has none."""
-    return f'{{"code": "Ok", "{name}": [{texts}]{"" if listed is None else f", {chr(34)}{more}{chr(34)}: {listed}"}}}'
+    """The text of an answer: the objects of its main list, and another list, None where it has
+    none."""
+    behind = "" if listed is None else f', "{more}": {listed}'
+    return f'{{"code": "Ok", "{name}": [{texts}]{behind}}}'
 
 
 def chosen(waypoints: Sequence[str], first: int, question: Question) -> Sequence[str]:
     """The waypoints of a question for a route, whose coordinates begin at `first`."""
     own = waypoints[first:first + len(question.coordinates)]
-    return own if question.own.waypoints is None else [own[place] for place in question.own.waypoints]
+    return (
+        own if question.own.waypoints is None else [own[place] for place in question.own.waypoints])
 
 
 def ends_of(part: matching.Part, waypoints: tuple[int, ...] | None) -> tuple[int, ...] | None:
@@ -427,7 +481,8 @@ def objects(insides: Sequence[str | None], general: options.General) -> str | No
     if not general.has_waypoints:
         return None
     end = ', "hint": ""}' if general.has_hints else "}"
-    return f'[{", ".join(["null" if inside is None else f"{{{inside}{end}" for inside in insides])}]'
+    return (
+        f'[{", ".join(["null" if inside is None else f"{{{inside}{end}" for inside in insides])}]')
 
 
 def nearest_answer(insides: Sequence[str], general: options.General) -> str:
@@ -437,19 +492,26 @@ def nearest_answer(insides: Sequence[str], general: options.General) -> str:
 
 
 def rows_of(numbers: Any, digits: int, is_there: Marks) -> str:
-    """The rows of a table as a text of JSON: numbers of which so many digits lie behind the point, null where there is no way."""
+    """The rows of a table as a text of JSON: numbers of which so many digits lie behind the point,
+    null where there is no way."""
     if numbers.max(initial=0, where=is_there) < cells.MOST:
-        is_whole = numbers.dtype.kind != "f"
-        return cells.rows(numbers if is_whole else numpy.rint(numpy.where(is_there, numbers, 0)).astype(numpy.int64), digits, is_there)
-    told = (numbers / 10**digits).round(digits)
-    return json.dumps([[cell if is_way else None for cell, is_way in zip(*row)] for row in zip(told.tolist(), is_there.tolist())])
+        are_integers = numbers.dtype.kind != "f"
+        return cells.rows(
+            numbers if are_integers
+            else numpy.rint(numpy.where(is_there, numbers, 0)).astype(numpy.int64), digits,
+            is_there)
+    rounded = (numbers / 10**digits).round(digits)
+    return json.dumps([
+        [cell if is_way else None for cell, is_way in zip(*row)]
+        for row in zip(rounded.tolist(), is_there.tolist())])
 
 
 # Where coordinates were taken to.
 
 
 def numbers_in(path: str, count: int) -> Integers | None:
-    """The map's numbers of nodes 1, 2, .. by a file of names, or None where there is none, or not each name is a number."""
+    """The map's numbers of nodes 1, 2, .. by a file of names, or None where there is none, or not
+    each name is a number."""
     try:
         with open(path, "rb") as file:
             numbers = list(map(int, file))
@@ -459,14 +521,20 @@ def numbers_in(path: str, count: int) -> Integers | None:
     return numpy.array(numbers, numpy.int64) if fits else None
 
 
-def facing_spots(roads: Roads, spots: Spots, question: Question, first: int) -> tuple[Spots, Refusal | None]:
-    """The spots with those of some coordinates of a question in their place, which face the direction that is asked for, and the fault where one has
-    none. The spots of the question begin at `first`."""
-    found, facing = [], [(index, bearing) for index, bearing in enumerate(question.general.bearings) if bearing]
+def facing_spots(
+    roads: Roads, spots: Spots, question: Question, first: int,
+) -> tuple[Spots, Refusal | None]:
+    """The spots with those of some coordinates of a question in their place, which face the
+    direction that is asked for, and the fault where one has none. The spots of the question begin
+    at `first`."""
+    bearings = enumerate(question.general.bearings)
+    found, facing = [], [(index, bearing) for index, bearing in bearings if bearing]
     for index, bearing in facing:
         one = nearby.find_facing(roads, *question.coordinates[index], *bearing)
         if not len(one):
-            return spots, Refusal("NoSegment", f"no road leads in the direction of coordinate {index}")
+            return (
+                spots,
+                Refusal("NoSegment", f"no road leads in the direction of coordinate {index}"))
         found.append(one)
     every = matching.together([spots, *found])
     which = numpy.arange(len(spots))
@@ -486,7 +554,12 @@ def straight_lines(question: Question, starts: Spots, ends: Spots) -> Floats:
 def far_fault(metres: Floats, radiuses: Sequence[float]) -> Refusal | None:
     """The refusal of a coordinate without a road within its radius; None if each has one."""
     far = numpy.flatnonzero(~(metres <= radiuses))[:1].tolist()
-    return Refusal("NoSegment", f"coordinate {far[0]} is {length_text(metres[far[0]])} from the nearest road, more than its radius") if far else None
+    if not far:
+        return None
+    return Refusal(
+        "NoSegment",
+        f"coordinate {far[0]} is {length_text(metres[far[0]])} from the nearest road, more than "
+        "its radius")
 
 
 def see_that_near(spots: Spots, radiuses: Sequence[float]) -> None:

@@ -1,7 +1,8 @@
-"""Cells of tables as texts of JSON, all of a table at once by numpy, because a table has more numbers than all other answers.
+"""Cells of tables as texts of JSON, all of a table at once by numpy, because a table has more
+numbers than all other answers.
 
-A number is put together from words of four letters each: three digits or fewer, or the digits behind the point. Letters that are not told are zeros,
-which are left out at the end.
+A number is put together from words of four letters each: three digits or fewer, or the digits
+behind the point. Letters that are not written are zeros, which are left out at the end.
 """
 from __future__ import annotations
 
@@ -23,16 +24,19 @@ THOUSAND = 1_000
 
 def words(texts: Iterable[str]) -> NDArray[numpy.uint32]:
     """Texts of at most four letters as words."""
-    return numpy.frombuffer(b"".join([text.encode().rjust(4, b"\0") for text in texts]), numpy.uint32)
+    return numpy.frombuffer(
+        b"".join([text.encode().rjust(4, b"\0") for text in texts]), numpy.uint32)
 
 
 @functools.cache
 def endings(digits: int) -> NDArray[numpy.uint32]:
-    """The point and the last digits, so many, of each number. None ends with a zero, but where it is the only digit."""
+    """The point and the last digits, so many, of each number. None ends with a zero, but where it
+    is the only digit."""
     return words("." + (f"{rest:0{digits}}".rstrip("0") or "0") for rest in range(10**digits))
 
 
-# The lowest three digits before the point, without zeros before them, and from `THOUSAND` on with these, where higher digits come before.
+# The lowest three digits before the point, without zeros before them, and from `THOUSAND` on with
+# these, where higher digits come before.
 LOWEST = words([*map(str, range(THOUSAND)), *(f"{part:03}" for part in range(THOUSAND))])
 # The same of the digits above, where 0 is written only behind higher ones.
 HIGHER = numpy.append(numpy.uint32(0), LOWEST[1:])
@@ -40,10 +44,11 @@ BETWEEN, BEHIND_ROW, NULL = words([", ", "], [", "null"])
 
 
 def rows(numbers: Integers, digits: int, is_there: Marks) -> str:
-    """The text of a table of at least one cell: whole numbers (n, m) from 0 to `MOST`, of each of which the last digits, so many, lie behind the
-    point; null where nothing is there."""
-    is_whole = bool(is_there.all())
-    rest, behind = numpy.divmod(numbers if is_whole else numpy.where(is_there, numbers, 0), 10**digits)
+    """The text of a table of at least one cell: whole numbers (n, m) from 0 to `MOST`, of each of
+    which the last digits, so many, lie behind the point; null where nothing is there."""
+    is_complete = bool(is_there.all())
+    rest, behind = numpy.divmod(
+        numbers if is_complete else numpy.where(is_there, numbers, 0), 10**digits)
     columns, most, table = [endings(digits).take(behind)], int(rest.max()), LOWEST
     while most >= THOUSAND:
         above, part = numpy.divmod(rest, THOUSAND)
@@ -53,7 +58,7 @@ def rows(numbers: Integers, digits: int, is_there: Marks) -> str:
     letters = numpy.empty((*numbers.shape, len(columns) + 1), numpy.uint32)
     for place, column in enumerate(reversed(columns)):
         letters[..., place] = column
-    if not is_whole:
+    if not is_complete:
         letters[~is_there] = 0
         letters[~is_there, 0] = NULL
     letters[..., -1] = BETWEEN

@@ -1,4 +1,5 @@
-"""Joins steps that a driver takes for one: a street that changes its name right behind a turn, or right before one."""
+"""Joins steps that a driver takes for one: a street that changes its name right behind a turn, or
+right before one."""
 from __future__ import annotations
 
 from typing import TYPE_CHECKING
@@ -14,8 +15,9 @@ JOINING, NEAR = (TURN, CONTINUE, END_OF_ROAD), 30.0
 
 
 def joined(passages: Passages, pieces: Pieces, metres: Floats) -> tuple[Passages, dict[int, int]]:
-    """The passages without new names that are joined with a turn, and the streets that the turns then lead onto, by the numbers of their passages.
-    `metres` has how far from the start of its leg each piece ends."""
+    """The passages without new names that are joined with a turn, and the streets that the turns
+    then lead onto, by the numbers of their passages. `metres` has how far from the start of its leg
+    each piece ends."""
     kinds = passages.kinds
     if not (kinds == NEW_NAME).any():
         return passages, {}
@@ -30,7 +32,9 @@ def joined(passages: Passages, pieces: Pieces, metres: Floats) -> tuple[Passages
 
     def may_join(place: int, other: int) -> bool:
         """Whether the new name at one place is joined with what is done at another."""
-        is_near = 0 <= other < len(doing) and legs[place] == legs[other] and abs(at[place] - at[other]) < NEAR
+        is_near = (
+            0 <= other < len(doing) and legs[place] == legs[other]
+            and abs(at[place] - at[other]) < NEAR)
         return is_near and doing[other] in JOINING and not is_back[other]
 
     for place, kind in enumerate(doing):

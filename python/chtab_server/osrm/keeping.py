@@ -1,4 +1,5 @@
-"""What is made once for a place of a long list, and kept: the places that are asked for have it at once, and memory is taken for these alone."""
+"""What is made once for a place of a long list, and kept: the places that are asked for have it at
+once, and memory is taken for these alone."""
 from __future__ import annotations
 
 import threading
@@ -15,20 +16,25 @@ Columns = TypeVar("Columns", bound=tuple[Any, ...])
 
 
 class Keeping(Generic[Columns]):
-    """Columns with an item for each of some places of a list of `count`. `nothing` are empty columns. Once there are `most` items, all of them are made
-    anew when they are asked for. Several threads may ask."""
+    """Columns with an item for each of some places of a list of `count`. `nothing` are empty
+    columns. Once there are `most` items, all of them are made anew when they are asked for. Several
+    threads may ask."""
 
     def __init__(self, count: int, most: int, nothing: Columns) -> None:
         self.count, self.most, self.nothing, self.lock = count, most, nothing, threading.Lock()
         self.begin()
 
     def begin(self) -> None:
-        """Begins anew what is kept. `numbers` has for each place the number of its item from 1 on, 0 for one that is not known."""
+        """Begins anew what is kept. `numbers` has for each place the number of its item from 1 on,
+        0 for one that is not known."""
         self.kept, self.numbers = self.nothing, numpy.zeros(self.count, numpy.int32)
 
-    def found(self, places: Integers, is_own: Marks | None, make: Callable[[Integers], Columns]) -> tuple[Columns, Integers]:
-        """The columns, and which of their items the places have. `make` takes an array of numbers k, and makes the items of `places[k]`. Where `is_own`
-        is False the item is not that of the place, and is made each time."""
+    def found(
+        self, places: Integers, is_own: Marks | None, make: Callable[[Integers], Columns],
+    ) -> tuple[Columns, Integers]:
+        """The columns, and which of their items the places have. `make` takes an array of numbers
+        k, and makes the items of `places[k]`. Where `is_own` is False the item is not that of the
+        place, and is made each time."""
         with self.lock:
             if len(self.kept[0]) >= self.most:
                 self.begin()
@@ -40,9 +46,14 @@ class Keeping(Generic[Columns]):
                 self.make(places, is_own, make, which, missing)
             return self.kept, which
 
-    def make(self, places: Integers, is_own: Marks | None, make: Callable[[Integers], Columns], which: Integers, missing: Integers) -> None:
+    def make(
+        self, places: Integers, is_own: Marks | None, make: Callable[[Integers], Columns],
+        which: Integers, missing: Integers,
+    ) -> None:
         """Makes the items that are missing, each once."""
-        keys = places[missing] if is_own is None else numpy.where(is_own[missing], places[missing], -1 - missing)
+        keys = (
+            places[missing] if is_own is None
+            else numpy.where(is_own[missing], places[missing], -1 - missing))
         _, firsts, copies = numpy.unique(keys, return_index=True, return_inverse=True)
         some, before = missing[firsts], len(self.kept[0])
         made: Callable[..., Columns] = type(self.nothing)

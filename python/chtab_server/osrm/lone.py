@@ -1,7 +1,8 @@
-"""Routes between two places without lines: found and told by plain numbers, because it takes longer
-to call numpy than to compute what they are asked for. The engine is asked for all of them at once.
+"""Routes between two places without lines: found and formatted by plain numbers, because it takes
+longer to call numpy than to compute what they are asked for. The engine is asked for all of them at
+once.
 
-They are the routes that `answering` finds for other questions, and told in the same text.
+They are the routes that `answering` finds for other questions, and formatted in the same way.
 """
 from __future__ import annotations
 
@@ -30,8 +31,7 @@ def is_lone(general: options.General, own: options.Route, count: int) -> bool:
     return (
         count == 2 and own.overview == "false" and not own.has_steps and not own.annotations
         and not own.alternatives and own.waypoints is None
-        and not (general.has_radiuses or general.has_bearings or general.has_curbs)
-    )
+        and not (general.has_radiuses or general.has_bearings or general.has_curbs))
 
 
 class Way(NamedTuple):
@@ -118,6 +118,6 @@ def length(one: Stop, other: Stop, way: Way, found: Iterator[tuple[int, int]]) -
 def text_of(weight: int, metres: float) -> str:
     """The text of a route."""
     duration = weight / MILLISECONDS
-    told = f'"distance": {round(metres, 1)}, "duration": {duration}, "weight": {duration}'
-    leg = f'{{{told}, "summary": "", "steps": []}}'
-    return f'{{{told}, "weight_name": "duration", "legs": [{leg}]}}'
+    members = f'"distance": {round(metres, 1)}, "duration": {duration}, "weight": {duration}'
+    leg = f'{{{members}, "summary": "", "steps": []}}'
+    return f'{{{members}, "weight_name": "duration", "legs": [{leg}]}}'

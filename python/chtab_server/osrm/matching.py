@@ -1,7 +1,9 @@
-"""Matches tracks to roads: finds the likeliest points of roads for the places of a track, by a hidden Markov model (Newson and Krumm 2009).
+"""Matches tracks to roads: finds the likeliest points of roads for the places of a track, by a
+hidden Markov model (Newson and Krumm 2009).
 
-A point is likelier the nearer it is to its place, and a way between two points the closer its length is to the straight line between the places. A
-place is left out if no way to it has about that length. The track is split if many places in a row are left out, or if much time passes.
+A point is likelier the nearer it is to its place, and a way between two points the closer its
+length is to the straight line between the places. A place is left out if no way to it has about
+that length. The track is split if many places in a row are left out, or if much time passes.
 """
 from __future__ import annotations
 
@@ -20,22 +22,25 @@ if TYPE_CHECKING:
     from chtab._roads.trips import Trips
     from chtab.typing import Floats, Integers
 
-# The default precision of a place in metres, the multiple of it within which roads are candidates, and the most candidates.
+# The default precision of a place in metres, the multiple of it within which roads are candidates,
+# and the most candidates.
 PRECISION, TIMES, MOST_ROADS = 5.0, 3.0, 6
-# The mean and the largest difference in metres between ways and straight lines, and how many legs are asked for together.
+# The mean and the largest difference in metres between ways and straight lines, and how many legs
+# are asked for together.
 BETA, MOST_OFF, BATCH = 10.0, 1_000.0, 1_024
 # How many places in a row may be left out before the track is split, and the seconds of a gap.
 MOST_LEFT_OUT, GAP = 10, 60
 # The metres and seconds from the place before within which a place adds little.
 TIDY_METRES, TIDY_SECONDS = 15.0, 5
-# The means and widths of Laplace distributions of the logarithm of a match's length divided by the track's, for right and for wrong matches, and the
-# share of right ones, as OSRM has measured them.
+# The means and widths of Laplace distributions of the logarithm of a match's length divided by the
+# track's, for right and for wrong matches, and the share of right ones, as OSRM has measured them.
 RIGHT, WRONG, SHARE_RIGHT = (0.005986, 0.016646), (0.054385, 0.458432), 0.696774
 
 
 class Track(NamedTuple):
-    """A track: its places in degrees (n, 2), the precision of each in metres (`radiuses`), infinite if it isn't given, the seconds of each, or None, and
-    the direction in which each was driven over, with how many degrees off it are taken, or None."""
+    """A track: its places in degrees (n, 2), the precision of each in metres (`radiuses`), infinite
+    if it isn't given, the seconds of each, or None, and the direction in which each was driven
+    over, with how many degrees off it are taken, or None."""
 
     places: Floats
     radiuses: Sequence[float]
@@ -44,8 +49,8 @@ class Track(NamedTuple):
 
 
 class Part(NamedTuple):
-    """A connected part of a track: the numbers of its places, their points on roads, how many other roads were near each, and its confidence, from 0
-    to 1."""
+    """A connected part of a track: the numbers of its places, their points on roads, how many other
+    roads were near each, and its confidence, from 0 to 1."""
 
     places: list[int]
     spots: Spots
@@ -53,7 +58,9 @@ class Part(NamedTuple):
     confidence: float
 
 
-def matched(trips: Trips, track: Track, is_parted: bool = True, is_tidied: bool = False) -> list[Part]:
+def matched(
+    trips: Trips, track: Track, is_parted: bool = True, is_tidied: bool = False,
+) -> list[Part]:
     """The parts of a track, each of at least two places."""
     kept = tidied(track) if is_tidied else list(range(len(track.places)))
     model = Model(trips, track)
@@ -67,7 +74,8 @@ def matched(trips: Trips, track: Track, is_parted: bool = True, is_tidied: bool 
 
 
 def begun(model: Model, places: list[int], is_parted: bool) -> tuple[Chain, list[int]]:
-    """The chain that starts at the first of some places, and the places that are left for the next one."""
+    """The chain that starts at the first of some places, and the places that are left for the next
+    one."""
     chain = Chain(model, places[0])
     for at, place in enumerate(places[1:], 1):
         if is_parted and is_gap(model.track, places[at - 1], place):
@@ -83,7 +91,9 @@ def tidied(track: Track) -> list[int]:
     for place in range(1, len(steps)):
         (x, y), (u, v) = steps[kept[-1]], steps[place]
         is_far = metres_between(*map(numpy.atleast_1d, (x, y, u, v)))[0] >= TIDY_METRES
-        is_later = track.timestamps is None or track.timestamps[place] - track.timestamps[kept[-1]] >= TIDY_SECONDS
+        is_later = (
+            track.timestamps is None
+            or track.timestamps[place] - track.timestamps[kept[-1]] >= TIDY_SECONDS)
         if is_far and is_later:
             kept.append(place)
     return kept
@@ -94,18 +104,23 @@ def is_gap(track: Track, before: int, place: int) -> bool:
 
 
 class Model:
-    """The candidates of a track: the points on roads near each place, and the ways between those of two places."""
+    """The candidates of a track: the points on roads near each place, and the ways between those of
+    two places."""
 
     def __init__(self, trips: Trips, track: Track) -> None:
         self.trips, self.track = trips, track
         self.ways: dict[tuple[int, int], Floats] = {}
-        self.spreads = [radius if numpy.isfinite(radius) and radius > 0 else PRECISION for radius in track.radiuses]
+        self.spreads = [
+            radius if numpy.isfinite(radius) and radius > 0 else PRECISION
+            for radius in track.radiuses]
         self.spots = [self.near(place) for place in range(len(track.places))]
 
     def near(self, place: int) -> Spots:
         (x, y), roads = self.track.places[place], self.trips.roads
         bearing = self.track.bearings[place] if self.track.bearings else None
-        found = nearby.find_some(roads, x, y, MOST_ROADS) if bearing is None else facing(roads, x, y, MOST_ROADS, bearing)
+        found = (
+            nearby.find_some(roads, x, y, MOST_ROADS) if bearing is None
+            else facing(roads, x, y, MOST_ROADS, bearing))
         return found[found.metres <= TIMES * self.spreads[place]]
 
     def emission(self, place: int) -> Floats:
@@ -118,7 +133,8 @@ class Model:
         self.find(list(zip(there, there[1:])))
 
     def find(self, pairs: Sequence[tuple[int, int]]) -> None:
-        """Finds the metres of the ways between the points of pairs of places, infinite if there is no way."""
+        """Finds the metres of the ways between the points of pairs of places, infinite if there is
+        no way."""
         of_starts: list[Spots] = []
         of_ends: list[Spots] = []
         for before, place in pairs:
@@ -140,7 +156,8 @@ class Model:
             at += shape[0] * shape[1]
 
     def transition(self, before: int, place: int) -> Floats:
-        """The logarithms of the likelihood of each way between two places; minus infinity if its length is too different from the straight line."""
+        """The logarithms of the likelihood of each way between two places; minus infinity if its
+        length is too different from the straight line."""
         if (before, place) not in self.ways:
             self.find([(before, place)])
         off = abs(self.ways[before, place] - self.straight(before, place))
@@ -153,7 +170,8 @@ class Model:
 
 
 class Chain:
-    """Places that are connected by ways, with the best way to each point of each place (Viterbi 1967)."""
+    """Places that are connected by ways, with the best way to each point of each place (Viterbi
+    1967)."""
 
     def __init__(self, model: Model, place: int) -> None:
         self.model, self.places = model, [place]
@@ -181,9 +199,12 @@ class Chain:
             picked.append(int(before[picked[-1]]))
         picked.reverse()
         steps = list(zip(self.places, self.places[1:]))
-        metres = sum(float(self.model.ways[step][one, other]) for step, one, other in zip(steps, picked, picked[1:]))
+        metres = sum(
+            float(self.model.ways[step][one, other])
+            for step, one, other in zip(steps, picked, picked[1:]))
         straight = sum(self.model.straight(*step) for step in steps)
-        spots = together([self.model.spots[place][[pick]] for place, pick in zip(self.places, picked)])
+        spots = together([
+            self.model.spots[place][[pick]] for place, pick in zip(self.places, picked)])
         others = [len(self.model.spots[place]) - 1 for place in self.places]
         return Part(self.places, spots, others, confidence(straight, metres))
 
@@ -200,11 +221,15 @@ def confidence(straight: float, metres: float) -> float:
     return round(float(right / (right + wrong)), 6)
 
 
-def facing(roads: Roads, longitude: float, latitude: float, most: int, bearing: tuple[int, int]) -> Spots:
-    """The spots of a place on its nearest roads that lead in a direction, at most `most` of them, the nearest first."""
+def facing(
+    roads: Roads, longitude: float, latitude: float, most: int, bearing: tuple[int, int],
+) -> Spots:
+    """The spots of a place on its nearest roads that lead in a direction, at most `most` of them,
+    the nearest first."""
     found: list[Spots] = []
     while len(found) < most:
-        one = nearby.find_facing(roads, longitude, latitude, *bearing, [int(each.roads[0]) for each in found])
+        one = nearby.find_facing(
+            roads, longitude, latitude, *bearing, [int(each.roads[0]) for each in found])
         if not len(one):
             break
         found.append(one)

@@ -101,7 +101,8 @@ def nearest_some(
             break
         count *= 2
     # A point as near as the last of these may be on a piece whose middle is farther away.
-    [near] = pieces.within(place, numpy.sqrt(apart[-1:]))
+    radius = numpy.sqrt(apart[-1:]) * (1 + 1e-9) + pieces.reach + 1e-12
+    [near] = pieces.tree.query_ball_point(place, radius)
     steps, shares, _ = best_of(pieces.steps[numpy.asarray(near, int)])
     return steps, shares, pieces.at(steps, shares)
 

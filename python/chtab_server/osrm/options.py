@@ -1,4 +1,5 @@
-"""The options of each service. An option that would change the answer, and that isn't supported, is refused by its name."""
+"""The options of each service. An option that would change the answer, and that isn't supported, is
+refused by its name."""
 from __future__ import annotations
 
 import functools
@@ -26,7 +27,8 @@ TIMESTAMP = re.compile(r"\d{1,18}", re.ASCII)
 FORMS = "polyline", "polyline6", "geojson"
 # How many cells take as long as the distance of one.
 DISTANCE = 8
-# How much longer a leg takes than one without a line: with a line, with steps, and with annotations.
+# How much longer a leg takes than one without a line: with a line, with steps, and with
+# annotations.
 OF_LINES, OF_STEPS, OF_ANNOTATIONS = {"false": 0.0, "full": 0.5, "simplified": 3.5}, 1.5, 10.0
 # The most alternatives of a route.
 MOST_ALTERNATIVES = 3
@@ -74,9 +76,11 @@ def values_in(query: str) -> dict[str, str]:
 
 
 class General(NamedTuple):
-    """What all services take: for each coordinate the metres within which a road has to lie, the direction in which it has to be driven along with
-    how many degrees off it are taken, or None, and whether it has to lie on the side of the road that is driven on; whether waypoints have hints,
-    which are empty, and whether there are waypoints; and whether any radius is not infinite, any direction asked for, and any side of the road."""
+    """What all services take: for each coordinate the metres within which a road has to lie, the
+    direction in which it has to be driven along with how many degrees off it are taken, or None,
+    and whether it has to lie on the side of the road that is driven on; whether waypoints have
+    hints, which are empty, and whether there are waypoints; and whether any radius is not infinite,
+    any direction asked for, and any side of the road."""
 
     radiuses: tuple[float, ...]
     bearings: tuple[tuple[int, int] | None, ...]
@@ -104,7 +108,8 @@ class Route(NamedTuple):
     @property
     def work(self) -> float:
         """How long a leg takes, beside one without a line, steps and annotations."""
-        return 1 + OF_LINES[self.overview] + OF_STEPS * self.has_steps + OF_ANNOTATIONS * bool(self.annotations)
+        more = OF_STEPS * self.has_steps + OF_ANNOTATIONS * bool(self.annotations)
+        return 1 + OF_LINES[self.overview] + more
 
     @property
     def has_traces(self) -> bool:
@@ -113,8 +118,8 @@ class Route(NamedTuple):
 
 
 class Trip(NamedTuple):
-    """The options of a trip: those of its route, whether it leads back to its start, whether the first coordinate is the start, and whether the last
-    one is the end."""
+    """The options of a trip: those of its route, whether it leads back to its start, whether the
+    first coordinate is the start, and whether the last one is the end."""
 
     route: Route
     is_round: bool
@@ -123,8 +128,8 @@ class Trip(NamedTuple):
 
 
 class Match(NamedTuple):
-    """The options of a matched track: those of its routes, the seconds of its coordinates or None, whether it is split at gaps, and whether
-    coordinates that add little are left out."""
+    """The options of a matched track: those of its routes, the seconds of its coordinates or None,
+    whether it is split at gaps, and whether coordinates that add little are left out."""
 
     route: Route
     timestamps: list[int] | None
@@ -133,8 +138,9 @@ class Match(NamedTuple):
 
 
 class Table(NamedTuple):
-    """The options of a table: the coordinates of its rows and columns, what its cells have, the factor of durations, and the metres a
-    second along the straight line in a cell without a way, None where it is empty, between the coordinates as they came or where roads are."""
+    """The options of a table: the coordinates of its rows and columns, what its cells have, the
+    factor of durations, and the metres a second along the straight line in a cell without a way,
+    None where it is empty, between the coordinates as they came or where roads are."""
 
     sources: list[int]
     destinations: list[int]
@@ -151,7 +157,8 @@ class Table(NamedTuple):
 
 
 class Reader:
-    """Reads the options of one request by their names. `finish` refuses those that were not read."""
+    """Reads the options of one request by their names. `finish` refuses those that were not
+    read."""
 
     def __init__(self, service: str, given: Mapping[str, str], count: int) -> None:
         self.service, self.given, self.count = service, dict(given), count
@@ -175,7 +182,8 @@ class Reader:
             return [""] * self.count
         found = self.take(name, "").split(";")
         if len(found) != self.count:
-            raise Refusal("InvalidOptions", f"{name}: {len(found):,} elements for {self.count:,} coordinates")
+            raise Refusal(
+                "InvalidOptions", f"{name}: {len(found):,} elements for {self.count:,} coordinates")
         return found
 
     def refuse(self, *names: str) -> None:
@@ -190,7 +198,7 @@ class Reader:
             raise Refusal("InvalidQuery", f"{name}: a number from 0 on, as 1.5")
         return value
 
-    def whole(self, name: str, text: str) -> int:
+    def integer(self, name: str, text: str) -> int:
         if not INDEX.fullmatch(text):
             raise Refusal("InvalidQuery", f"{name}: a whole number from 0 on")
         return int(text)
@@ -200,7 +208,7 @@ class Reader:
         text = self.take(name, "all")
         if text == "all":
             return list(range(self.count))
-        found = [self.whole(name, part) for part in text.split(";", self.count)]
+        found = [self.integer(name, part) for part in text.split(";", self.count)]
         if max(found) >= self.count:
             raise Refusal("InvalidOptions", f"{name}: an index is from 0 to {self.count - 1:,}")
         if len(found) > self.count:
@@ -215,7 +223,9 @@ class Reader:
 def general(reader: Reader) -> General:
     """The options of all services."""
     texts = reader.elements("radiuses")
-    radiuses = tuple(math.inf if text in ("", "unlimited") else reader.number("radiuses", text) for text in texts)
+    radiuses = tuple(
+        math.inf if text in ("", "unlimited") else reader.number("radiuses", text)
+        for text in texts)
     bearings = tuple(bearing_in(text) for text in reader.elements("bearings"))
     # Hints of other servers would only shorten the search for a road.
     reader.take("hints", "")
@@ -224,8 +234,11 @@ def general(reader: Reader) -> General:
     reader.choice("snapping", "default", "any")
     # Another network answers, which the service has chosen.
     reader.take("exclude", "")
-    hints, waypoints = reader.boolean("generate_hints", True), not reader.boolean("skip_waypoints", False)
-    return General(radiuses, bearings, curbs, hints, waypoints, any(map(math.isfinite, radiuses)), any(bearings), any(curbs))
+    hints = reader.boolean("generate_hints", True)
+    waypoints = not reader.boolean("skip_waypoints", False)
+    return General(
+        radiuses, bearings, curbs, hints, waypoints, any(map(math.isfinite, radiuses)),
+        any(bearings), any(curbs))
 
 
 def excluded_in(query: str) -> tuple[str, ...]:
@@ -233,7 +246,8 @@ def excluded_in(query: str) -> tuple[str, ...]:
     word = values_in(query).get("exclude", "")
     names = word.split(",") if word else []
     if not set(names) <= set(CLASSES):
-        raise Refusal("InvalidValue", f"exclude: some of {', '.join(CLASSES)}, with commas between them")
+        raise Refusal(
+            "InvalidValue", f"exclude: some of {', '.join(CLASSES)}, with commas between them")
     return tuple(name for name in CLASSES if name in names)
 
 
@@ -245,24 +259,27 @@ def is_at_curb(text: str) -> bool:
 
 
 def bearing_in(text: str) -> tuple[int, int] | None:
-    """A direction from 0 to 360 degrees and the allowed deviation, from 0 to 180; None for an empty element."""
+    """A direction from 0 to 360 degrees and the allowed deviation, from 0 to 180; None for an empty
+    element."""
     if not text:
         return None
     found = BEARING.fullmatch(text)
     if not found or int(found[1]) > 360 or int(found[2]) > 180:
-        raise Refusal("InvalidQuery", "bearings: a direction from 0 to 360 and a range from 0 to 180 degrees, as 90,20")
+        raise Refusal(
+            "InvalidQuery",
+            "bearings: a direction from 0 to 360 and a range from 0 to 180 degrees, as 90,20")
     return int(found[1]), int(found[2])
 
 
 def route(reader: Reader) -> Route:
     if reader.count < 2:
         raise Refusal("InvalidOptions", "a route has at least two coordinates")
-    asked = alternatives(reader)
+    count = alternatives(reader)
     straight = reader.choice("continue_straight", "default", "true", "false")
-    return without_steps(told_route(reader)._replace(
-        is_straight={"true": True, "false": False}.get(straight), waypoints=waypoints(reader),
-        alternatives=asked,
-    ))
+    return without_steps(
+        route_options(reader)._replace(
+            is_straight={"true": True, "false": False}.get(straight), waypoints=waypoints(reader),
+            alternatives=count))
 
 
 def without_steps(found: Route) -> Route:
@@ -277,13 +294,14 @@ def alternatives(reader: Reader) -> int:
     text = reader.take("alternatives", "false")
     if not ALTERNATIVES.fullmatch(text):
         raise Refusal("InvalidQuery", "alternatives: true, false or a number")
-    asked = {"true": 1, "false": 0}.get(text)
+    known = {"true": 1, "false": 0}.get(text)
     most = MOST_ALTERNATIVES if reader.count == 2 else 0
-    return min(int(text) if asked is None else asked, most)
+    return min(int(text) if known is None else known, most)
 
 
 def waypoints(reader: Reader) -> tuple[int, ...] | None:
-    """The indices of the coordinates that are waypoints, in order, the first and the last coordinate among them; None if all are."""
+    """The indices of the coordinates that are waypoints, in order, the first and the last
+    coordinate among them; None if all are."""
     if "waypoints" not in reader.given:
         return None
     found = tuple(sorted({*reader.indices("waypoints")}))
@@ -292,11 +310,13 @@ def waypoints(reader: Reader) -> tuple[int, ...] | None:
     return found
 
 
-def told_route(reader: Reader) -> Route:
+def route_options(reader: Reader) -> Route:
     """The options of routes in all services."""
     geometries = reader.choice("geometries", *FORMS)
     overview = reader.choice("overview", "simplified", "full", "false")
-    return Route(geometries, overview, reader.boolean("steps", False), route_annotations(reader.take("annotations", "false")))
+    return Route(
+        geometries, overview, reader.boolean("steps", False),
+        route_annotations(reader.take("annotations", "false")))
 
 
 def route_annotations(text: str) -> tuple[str, ...]:
@@ -304,7 +324,8 @@ def route_annotations(text: str) -> tuple[str, ...]:
         return ANNOTATIONS if text == "true" else ()
     names = text.split(",", len(ANNOTATIONS))
     if not set(names) <= set(ANNOTATIONS):
-        raise Refusal("InvalidQuery", f"annotations: true, false or some of {', '.join(ANNOTATIONS)}")
+        raise Refusal(
+            "InvalidQuery", f"annotations: true, false or some of {', '.join(ANNOTATIONS)}")
     return tuple(name for name in ANNOTATIONS if name in names)
 
 
@@ -313,8 +334,9 @@ def trip(reader: Reader) -> Trip:
     if reader.count < 2:
         raise Refusal("InvalidOptions", "a trip has at least two coordinates")
     is_round = reader.boolean("roundtrip", True)
-    source, destination = reader.choice("source", "any", "first"), reader.choice("destination", "any", "last")
-    return Trip(told_route(reader), is_round, source == "first", destination == "last")
+    source, destination = (
+        reader.choice("source", "any", "first"), reader.choice("destination", "any", "last"))
+    return Trip(route_options(reader), is_round, source == "first", destination == "last")
 
 
 def match(reader: Reader) -> Match:
@@ -322,7 +344,7 @@ def match(reader: Reader) -> Match:
     if reader.count < 2:
         raise Refusal("InvalidOptions", "a track has at least two coordinates")
     gaps, is_tidied = reader.choice("gaps", "split", "ignore"), reader.boolean("tidy", False)
-    found = told_route(reader)._replace(waypoints=waypoints(reader))
+    found = route_options(reader)._replace(waypoints=waypoints(reader))
     return Match(without_steps(found), timestamps(reader), gaps == "split", is_tidied)
 
 
@@ -343,35 +365,46 @@ def timestamps(reader: Reader) -> list[int] | None:
 def table(reader: Reader) -> Table:
     if reader.count < 2:
         raise Refusal("InvalidOptions", "a table has at least two coordinates")
-    annotations = reader.choice("annotations", "duration", "distance", "duration,distance", "distance,duration")
+    annotations = reader.choice(
+        "annotations", "duration", "distance", "duration,distance", "distance,duration")
     scale = reader.number("scale_factor", reader.take("scale_factor", "1"))
     if not 0 < scale <= MOST_SCALE:
         raise Refusal("InvalidOptions", f"scale_factor: a number above 0, at most {MOST_SCALE:,}")
-    fallback = reader.number("fallback_speed", reader.take("fallback_speed", "0")) if "fallback_speed" in reader.given else None
+    fallback = (
+        reader.number("fallback_speed", reader.take("fallback_speed", "0"))
+        if "fallback_speed" in reader.given else None)
     if fallback is not None and not LEAST_SPEED <= fallback <= MOST_SPEED:
-        raise Refusal("InvalidOptions", f"fallback_speed: metres a second, from {LEAST_SPEED} to {MOST_SPEED:,}")
+        raise Refusal(
+            "InvalidOptions",
+            f"fallback_speed: metres a second, from {LEAST_SPEED} to {MOST_SPEED:,}")
     is_between_inputs = reader.choice("fallback_coordinate", "input", "snapped") == "input"
     sources, destinations = reader.indices("sources"), reader.indices("destinations")
-    return Table(sources, destinations, "duration" in annotations, "distance" in annotations, scale, fallback, is_between_inputs)
+    return Table(
+        sources, destinations, "duration" in annotations, "distance" in annotations, scale,
+        fallback, is_between_inputs)
 
 
 def nearest(reader: Reader) -> int:
     """The number of roads to find."""
     if reader.count != 1:
         raise Refusal("InvalidOptions", "nearest has one coordinate")
-    number = reader.whole("number", reader.take("number", "1"))
+    number = reader.integer("number", reader.take("number", "1"))
     if not number:
         raise Refusal("InvalidOptions", "number: at least 1")
     return number
 
 
-OF_SERVICE: dict[str, Callable[[Reader], Any]] = {"route": route, "table": table, "nearest": nearest, "trip": trip, "match": match}
+OF_SERVICE: dict[str, Callable[[Reader], Any]] = {
+    "route": route, "table": table, "nearest": nearest, "trip": trip, "match": match}
 
 
 def read(service: str, query: str, count: int) -> tuple[General, Any]:
-    """The general options and those of the service, by the query of an address with so many coordinates. Clients send the same query again and
-    again, so that what short ones say is kept."""
-    return known(service, query, count) if len(query) <= LONGEST_KEPT and count <= MOST_KEPT else read_anew(service, query, count)
+    """The general options and those of the service, by the query of an address with so many
+    coordinates. Clients send the same query again and again, so that what short ones say is
+    kept."""
+    return (
+        known(service, query, count) if len(query) <= LONGEST_KEPT and count <= MOST_KEPT
+        else read_anew(service, query, count))
 
 
 def read_anew(service: str, query: str, count: int) -> tuple[General, Any]:

@@ -52,7 +52,7 @@ class Places:
         self.outs, width = ways.outs, ways.nodes.shape[1]
         self.rows: dict[Point, int] = {}
         self.fractions: Floats = numpy.empty((ROOM, FRACTIONS))
-        self.wholes: Integers = numpy.empty((ROOM, BEFORE_NODES + 2 * width), numpy.int64)
+        self.integers: Integers = numpy.empty((ROOM, BEFORE_NODES + 2 * width), numpy.int64)
         self.texts: list[str] = []
         self.stops: list[Stop | None] = []
 
@@ -83,18 +83,21 @@ class Places:
 
     def look_for(self, places: Sequence[Point]) -> None:
         """Takes places to roads, and keeps what is found."""
-        fractions, wholes = self.few(places) if len(places) <= FEW else self.many(places)
+        fractions, integers = self.few(places) if len(places) <= FEW else self.many(places)
         first, last = len(self.texts), len(self.texts) + len(places)
         self.make_room(last)
-        self.fractions[first:last], self.wholes[first:last] = fractions, wholes
-        for (x, y, metres, *_), road in zip(fractions, (each[0] for each in wholes)):
+        self.fractions[first:last], self.integers[first:last] = fractions, integers
+        for (x, y, metres, *_), road in zip(fractions, (each[0] for each in integers)):
             self.texts.append(self.text_of(x, y, metres, road))
             self.stops.append(None)
         self.rows.update(zip(places, range(first, last)))
 
     def few(self, places: Sequence[Point]) -> tuple[list[Any], list[Any]]:
         """The columns of a few places, one by one."""
-        found, sides = self.roads.few(*zip(*places)), FORWARD | BACKWARD
+        self.roads.see_that_some()
+        longitudes, latitudes = zip(*places)
+        on_lines = self.roads.lines.nearest_few(numpy.array(longitudes), numpy.array(latitudes))
+        found, sides = self.roads.few_on(longitudes, latitudes, on_lines), FORWARD | BACKWARD
         fractions = [(*each[:3], each.part, *place) for each, place in zip(found, places)]
         return fractions, [(each.road, sides, *each.nodes, *each.weights) for each in found]
 
@@ -103,29 +106,27 @@ class Places:
         spots = self.roads.find_any(*numpy.array(places).T)
         fractions = spots.longitudes, spots.latitudes, spots.metres, spots.parts, spots.places
         nodes, weights = (spots.out_nodes, spots.in_nodes), (spots.out_weights, spots.in_weights)
-        wholes = numpy.column_stack([spots.roads, spots.sides, *nodes, *weights])
-        return numpy.column_stack(fractions).tolist(), wholes.tolist()
+        integers = numpy.column_stack([spots.roads, spots.sides, *nodes, *weights])
+        return numpy.column_stack(fractions).tolist(), integers.tolist()
 
     def make_room(self, count: int) -> None:
         """Makes room for so many rows."""
         room = len(self.fractions)
         if count > room:
             more = max(count, 2 * room) - room
-            self.fractions, self.wholes = (
+            self.fractions, self.integers = (
                 numpy.concatenate([kept, numpy.empty((more, kept.shape[1]), kept.dtype)])
-                for kept in (self.fractions, self.wholes)
-            )
+                for kept in (self.fractions, self.integers))
 
     def spots(self, rows: list[int]) -> Spots:
         """The spots of some rows."""
-        fractions, wholes = self.fractions.take(rows, axis=0), self.wholes.take(rows, axis=0)
+        fractions, integers = self.fractions.take(rows, axis=0), self.integers.take(rows, axis=0)
         out, into, behind, end = self.cuts()
         x, y, metres, parts = fractions.T[:4]
         return Spots(
-            x, y, metres, wholes[:, 0], parts, wholes[:, out:into], wholes[:, behind:end],
-            wholes[:, into:behind], wholes[:, end:], wholes[:, 1], fractions[:, 4:],
-            self.roads.origin,
-        )
+            x, y, metres, integers[:, 0], parts, integers[:, out:into], integers[:, behind:end],
+            integers[:, into:behind], integers[:, end:], integers[:, 1], fractions[:, 4:],
+            self.roads.origin)
 
     def cuts(self) -> tuple[int, int, int, int]:
         """Where the nodes out of roads begin among the columns of whole numbers, then the nodes
@@ -135,7 +136,7 @@ class Places:
 
     def stop(self, row: int) -> Stop:
         """Makes the stop of a row, and keeps it."""
-        part, numbers = float(self.fractions[row, 3]), self.wholes[row].tolist()
+        part, numbers = float(self.fractions[row, 3]), self.integers[row].tolist()
         out, into, behind, end = self.cuts()
         outs = by_ends(numbers[out:into], numbers[behind:end])
         ins = by_ends(numbers[into:behind], numbers[end:])

@@ -1,4 +1,5 @@
-"""Lines as text, by Google's encoded polyline format: each number is a difference, in groups of five bits, the least significant first."""
+"""Lines as text, by Google's encoded polyline format: each number is a difference, in groups of
+five bits, the least significant first."""
 from __future__ import annotations
 
 import json
@@ -22,35 +23,44 @@ SAME = "??"
 
 
 def texts(places: Floats, firsts: Integers, form: str) -> list[str]:
-    """Several lines of at least two places each, which follow on each other and begin at `firsts`, as texts of JSON in this form."""
+    """Several lines of at least two places each, which follow on each other and begin at `firsts`,
+    as texts of JSON in this form."""
     if form in DIGITS:
         # The letters of a polyline are no quotes.
-        return ['"' + text.replace("\\", "\\\\") + '"' for text in encoded_each(places, firsts, DIGITS[form])]
+        return [
+            '"' + text.replace("\\", "\\\\") + '"'
+            for text in encoded_each(places, firsts, DIGITS[form])]
     listed, cuts = places.tolist(), [*numpy.asarray(firsts).tolist(), len(places)]
-    return [f'{{"type": "LineString", "coordinates": {json.dumps(listed[first:last])}}}' for first, last in zip(cuts, cuts[1:])]
+    return [
+        f'{{"type": "LineString", "coordinates": {json.dumps(listed[first:last])}}}'
+        for first, last in zip(cuts, cuts[1:])]
 
 
 def encoded(places: Floats, precision: int) -> str:
-    """The text of places (n, 2), longitude and latitude in degrees, rounded to `precision` decimal digits."""
+    """The text of places (n, 2), longitude and latitude in degrees, rounded to `precision` decimal
+    digits."""
     return encoded_each(places, [0], precision)[0] if len(places) else ""
 
 
 def encoded_each(places: Floats, firsts: Sequence[int] | Integers, precision: int) -> list[str]:
-    """The texts of several lines of at least one place each, which stand one after the other and begin at `firsts`."""
-    numbers = whole(places, precision)
+    """The texts of several lines of at least one place each, which stand one after the other and
+    begin at `firsts`."""
+    numbers = integers(places, precision)
     steps = numbers.copy()
     steps[1:] -= numbers[:-1]
     steps[firsts] = numbers[firsts]
     return letters(steps, numpy.append(firsts, len(places)))
 
 
-def whole(places: Floats, precision: int) -> Integers:
-    """Latitudes and longitudes of places (n, 2) as whole numbers with so many digits behind the point: int32 (n, 2)."""
+def integers(places: Floats, precision: int) -> Integers:
+    """Latitudes and longitudes of places (n, 2) as whole numbers with so many digits behind the
+    point: int32 (n, 2)."""
     return numpy.floor(places[:, ::-1] * 10.0**precision + 0.5).astype(numpy.int32)
 
 
 def letters(steps: Integers, cuts: Integers) -> list[str]:
-    """The texts of lines by the differences of their places, int32 (n, 2): line k has those from `cuts[k]` to before `cuts[k + 1]`."""
+    """The texts of lines by the differences of their places, int32 (n, 2): line k has those from
+    `cuts[k]` to before `cuts[k + 1]`."""
     flat = steps.reshape(-1)
     numbers = (flat << 1) ^ (flat >> 31)
     # A column for each group, of all numbers as many as the largest one has.
@@ -65,13 +75,15 @@ def letters(steps: Integers, cuts: Integers) -> list[str]:
 
 
 def decoded(text: str, precision: int, most: int) -> list[Point]:
-    """The places of a text, (longitude, latitude) in degrees. Refuses more than `most` before it reads them."""
+    """The places of a text, (longitude, latitude) in degrees. Refuses more than `most` before it
+    reads them."""
     numbers: list[int] = []
     value = shift = 0
     for letter in text.encode("ascii"):
         group = letter - 63
         if not 0 <= group < 64 or shift >= 5 * MOST_GROUPS:
-            raise Refusal("InvalidQuery", "the polyline has a character that is none of a polyline's")
+            raise Refusal(
+                "InvalidQuery", "the polyline has a character that is none of a polyline's")
         value |= (group & 31) << shift
         shift += 5
         if group < 32:
@@ -82,4 +94,6 @@ def decoded(text: str, precision: int, most: int) -> list[Point]:
     if shift or len(numbers) % 2 or not numbers:
         raise Refusal("InvalidQuery", "the polyline ends within a coordinate")
     latitudes, longitudes = (numpy.cumsum(numbers[axis::2]).tolist() for axis in (0, 1))
-    return [(longitude / 10**precision, latitude / 10**precision) for longitude, latitude in zip(longitudes, latitudes)]
+    return [
+        (longitude / 10**precision, latitude / 10**precision)
+        for longitude, latitude in zip(longitudes, latitudes)]

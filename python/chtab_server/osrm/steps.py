@@ -1,4 +1,5 @@
-"""Steps of legs in OSRM's form: the maneuvers of each leg, with streets, lines and crossings, as texts of JSON."""
+"""Steps of legs in OSRM's form: the maneuvers of each leg, with streets, lines and crossings, as
+texts of JSON."""
 from __future__ import annotations
 
 import functools
@@ -34,7 +35,7 @@ ROTARIES = {ENTER: "rotary", EXIT: "exit rotary"}
 MOST_RINGS = 1 << 14
 
 
-class Told(NamedTuple):
+class LegSteps(NamedTuple):
     """The steps of a leg, and the names of its two longest streets, as texts of JSON."""
 
     steps: str
@@ -42,8 +43,8 @@ class Told(NamedTuple):
 
 
 class Order(NamedTuple):
-    """The order of the steps of some legs, one leg after the other: how many there are, where the departure and the arrival of each leg are, and where
-    the steps between are."""
+    """The order of the steps of some legs, one leg after the other: how many there are, where the
+    departure and the arrival of each leg are, and where the steps between are."""
 
     total: int
     begins: Integers
@@ -73,18 +74,23 @@ class Steps:
         self.known, self.passing, self.streets = crossings, Passing(crossings), crossings.streets
         self.names = [json.dumps(street.name) for street in crossings.streets]
         side = f', "driving_side": "{crossings.side}"' if crossings.side else ""
-        # The text of a step from behind its weight up to its line: the names of its street, and the way of travelling along it.
+        # The text of a step from behind its weight up to its line: the names of its street, and the
+        # way of travelling along it.
         self.called = [f", {called(street)}" for street in crossings.streets]
-        self.modes = [f', "mode": "{FERRY if street.highway == FERRY else mode}"{side}, "geometry": ' for street in crossings.streets]
+        self.modes = [
+            f', "mode": "{FERRY if street.highway == FERRY else mode}"{side}, "geometry": '
+            for street in crossings.streets]
         self.members = column_of(list(map(str.__add__, self.called, self.modes)))
-        # What signs call a street, as the inside of a text of JSON; and numbers that are equal for streets with the same name, 0 for none.
+        # What signs call a street, as the inside of a text of JSON; and numbers that are equal for
+        # streets with the same name, 0 for none.
         self.signs = [json.dumps(street.name or street.ref)[1:-1] for street in crossings.streets]
         numbers = {"": 0}
-        self.name_numbers = numpy.array([numbers.setdefault(street.name, len(numbers)) for street in crossings.streets])
+        self.name_numbers = numpy.array([
+            numbers.setdefault(street.name, len(numbers)) for street in crossings.streets])
         self.ring_street = functools.lru_cache(MOST_RINGS)(self.ring_street_anew)
         self.ring_maneuver = functools.lru_cache(MOST_RINGS)(ring_maneuver_anew)
 
-    def of(self, legs: Legs, which: Integers, lines: Lines) -> list[Told]:
+    def of(self, legs: Legs, which: Integers, lines: Lines) -> list[LegSteps]:
         """The steps of some legs, each of which is a way and lies along `lines`."""
         if not len(which):
             return []
@@ -107,7 +113,8 @@ class Steps:
         members = self.members[streets]
         self.see_to_rings(passages, pieces, done, order.inner, members, maneuvers)
         maneuvers[order.begins], maneuvers[order.lasts] = map(column_of, zip(*lines.ends()))
-        # The crossings of a step are those up to the next step; an arrival has none. The text of a maneuver has the crossing where it is.
+        # The crossings of a step are those up to the next step; an arrival has none. The text of a
+        # maneuver has the crossing where it is.
         passed = order.column(cuts[:-1], acting, cuts[1:])
         passed = numpy.append(passed[1:], passed[-1]) - passed
         passed[order.inner] -= 1
@@ -116,8 +123,12 @@ class Steps:
         measured = lines.measured(order, pieces.numbers[passages.before[done]], begins)
         others = known.crossings[passages.ways[kept]][passages.kinds[kept] == SILENT]
         texts = lines.joined(order, measured, members, maneuvers, passed, others)
-        signs, metres, begins = [self.signs[street] for street in streets.tolist()], measured.metres.tolist(), order.begins.tolist()
-        return [Told(text, summary(signs[begin:last], metres[begin:last])) for text, begin, last in zip(texts, begins, order.lasts.tolist())]
+        signs, metres, begins = (
+            [self.signs[street] for street in streets.tolist()], measured.metres.tolist(),
+            order.begins.tolist())
+        return [
+            LegSteps(text, summary(signs[begin:last], metres[begin:last]))
+            for text, begin, last in zip(texts, begins, order.lasts.tolist())]
 
     def ends_of(self, legs: Legs, which: Integers, pieces: Pieces) -> tuple[Integers, Integers]:
         """The streets where each leg begins and ends."""
@@ -125,15 +136,21 @@ class Steps:
         begun = self.known.street_of[2 * legs.starts.roads[which]]
         ended = begun.copy()
         is_there = cuts[1:] > cuts[:-1]
-        begun[is_there], ended[is_there] = pieces.streets[cuts[:-1][is_there]], pieces.streets[cuts[1:][is_there] - 1]
+        begun[is_there], ended[is_there] = (
+            pieces.streets[cuts[:-1][is_there]], pieces.streets[cuts[1:][is_there] - 1])
         return begun, ended
 
-    def see_to_rings(self, passages: Passages, pieces: Pieces, done: Integers, at: Integers, members: Any, maneuvers: Any) -> None:
-        """Puts the texts of steps at rings in place of those that don't know the exit. The steps at the passages `done` have the places `at`."""
+    def see_to_rings(
+        self, passages: Passages, pieces: Pieces, done: Integers, at: Integers, members: Any,
+        maneuvers: Any,
+    ) -> None:
+        """Puts the texts of steps at rings in place of those that don't know the exit. The steps at
+        the passages `done` have the places `at`."""
         kinds = passages.kinds[done]
         places = numpy.flatnonzero((kinds == ENTER) | (kinds == EXIT))
         some = done[places]
-        rings, behind, streets, before = passages.rings[some], passages.behind[some], pieces.streets, passages.before[some]
+        rings, behind, streets, before = (
+            passages.rings[some], passages.behind[some], pieces.streets, passages.before[some])
         names, firsts = self.name_numbers[streets], pieces.legs.searchsorted(pieces.legs[before])
         # A ring has a name of its own if no street beside it has the same.
         is_own = names[rings] > 0
@@ -143,20 +160,26 @@ class Steps:
         along = streets[before + 1]
         called = numpy.where(behind >= 0, streets[behind], along).tolist()
         exits = passages.exits[some].tolist()
-        for place, kind, exit, name, street, own in zip(at[places].tolist(), kinds[places].tolist(), exits, named, called, along.tolist()):
+        for place, kind, exit, name, street, own in zip(
+            at[places].tolist(), kinds[places].tolist(), exits, named, called, along.tolist()
+        ):
             members[place] = self.ring_street(street, name, own)
-            maneuvers[place] = self.ring_maneuver(maneuvers[place], TYPES[kind], ROTARIES[kind] if name >= 0 else TYPES[kind], exit)
+            maneuvers[place] = self.ring_maneuver(
+                maneuvers[place], TYPES[kind], ROTARIES[kind] if name >= 0 else TYPES[kind], exit)
 
     def ring_street_anew(self, street: int, name: int, along: int) -> str:
-        """The text of a step at a ring from behind its weight up to its line. `name` is a street with the ring's own name, or -1."""
+        """The text of a step at a ring from behind its weight up to its line. `name` is a street
+        with the ring's own name, or -1."""
         more = f', "rotary_name": {self.names[name]}' if name >= 0 else ""
         return f"{self.called[street]}{more}{self.modes[along]}"
 
 
 def ring_maneuver_anew(text: str, old: str, new: str, exit: int) -> str:
-    """The text of a maneuver with another type, and with the number of the exit unless that is 0."""
+    """The text of a maneuver with another type, and with the number of the exit unless that is
+    0."""
     more = f', "exit": {exit}' if exit else ""
-    return text.replace(f'"type": "{old}"', f'"type": "{new}"', 1).replace('}, "intersections"', f'{more}}}, "intersections"', 1)
+    return text.replace(f'"type": "{old}"', f'"type": "{new}"', 1).replace(
+        '}, "intersections"', f'{more}}}, "intersections"', 1)
 
 
 def summary(names: Sequence[str], metres: Sequence[float]) -> str:
@@ -171,12 +194,15 @@ def summary(names: Sequence[str], metres: Sequence[float]) -> str:
 
 def called(street: Street) -> str:
     """What a step on a street is called: its name, and what else signs have of it."""
-    told = {"name": street.name, **{key: getattr(street, key) for key in ("ref", "destinations") if getattr(street, key)}}
-    return json.dumps(told)[1:-1]
+    members = {
+        "name": street.name,
+        **{key: getattr(street, key) for key in ("ref", "destinations") if getattr(street, key)}}
+    return json.dumps(members)[1:-1]
 
 
 class Measured(NamedTuple):
-    """How long steps are, in metres and in seconds, the texts of their first places, and how many pieces each has."""
+    """How long steps are, in metres and in seconds, the texts of their first places, and how many
+    pieces each has."""
 
     metres: Floats
     seconds: Floats
@@ -185,55 +211,71 @@ class Measured(NamedTuple):
 
 
 class Lines:
-    """How legs lie, one leg after the other: `metres` and `weights` from the start of a leg up to the end of each piece of it."""
+    """How legs lie, one leg after the other: `metres` and `weights` from the start of a leg up to
+    the end of each piece of it."""
 
     def __init__(self, drawing: Drawing, drawn: Drawn) -> None:
         self.drawing, self.drawn, self.firsts = drawing, drawn, drawn.pieces.firsts
         pieces = drawn.pieces
-        lengths = numpy.where(pieces.roads != NONE, abs(pieces.ends - pieces.starts) * drawing.lines.metres[pieces.roads], 0)
+        lengths = numpy.where(
+            pieces.roads != NONE,
+            abs(pieces.ends - pieces.starts) * drawing.lines.metres[pieces.roads], 0)
         self.metres = sums_before(lengths, self.firsts) + lengths
         self.weights = sums_before(pieces.weights, self.firsts) + pieces.weights
 
     def reached(self) -> Integers:
-        """For each piece the last of those of its leg that follow it without any place. It is at their end that the next step begins."""
+        """For each piece the last of those of its leg that follow it without any place. It is at
+        their end that the next step begins."""
         is_new = self.drawn.stretches.has_places.copy()
         is_new[self.firsts[:-1]] = True
         lasts = numpy.append(numpy.flatnonzero(is_new)[1:], len(is_new)) - 1
         return lasts[numpy.cumsum(is_new) - 1]
 
     def measured(self, order: Order, stops: Integers, begins: Any) -> Measured:
-        """How long all steps are, and where they begin. Those between departure and arrival begin at the ends of the pieces `stops`, at places with
-        the texts `begins`."""
+        """How long all steps are, and where they begin. Those between departure and arrival begin
+        at the ends of the pieces `stops`, at places with the texts `begins`."""
         reached, ends = self.reached()[stops], self.firsts[1:] - 1
-        metres, weights = (order.column(0, known[reached], known[ends]) for known in (self.metres, self.weights))
+        metres, weights = (
+            order.column(0, known[reached], known[ends]) for known in (self.metres, self.weights))
         cuts = order.column(self.firsts[:-1], stops + 1, self.firsts[1:])
         for column in metres, weights:
             column[:-1] = column[1:] - column[:-1]
             column[order.lasts] = 0
-        starts = order.column(column_of(self.drawn.begin_texts), begins, column_of(self.drawn.last_texts))
-        return Measured(metres.round(1), weights / 1_000, starts, numpy.append(cuts[1:], cuts[-1]) - cuts)
+        starts = order.column(
+            column_of(self.drawn.begin_texts), begins, column_of(self.drawn.last_texts))
+        return Measured(
+            metres.round(1), weights / 1_000, starts, numpy.append(cuts[1:], cuts[-1]) - cuts)
 
-    def joined(self, order: Order, measured: Measured, members: Any, maneuvers: Any, passed: Integers, crossings: Any) -> list[str]:
-        """The texts of the steps of each leg, from columns of texts. Each step has `passed` of the crossings beside that of its maneuver."""
+    def joined(
+        self, order: Order, measured: Measured, members: Any, maneuvers: Any, passed: Integers,
+        crossings: Any,
+    ) -> list[str]:
+        """The texts of the steps of each leg, from columns of texts. Each step has `passed` of the
+        crossings beside that of its maneuver."""
         open_line, close_line, alone = self.drawing.around()
         seconds = column_of(list(map(repr, measured.seconds.tolist())))
-        # Each step has this many parts before the pieces of its line, between these and its crossings, and behind them.
+        # Each step has this many parts before the pieces of its line, between these and its
+        # crossings, and behind them.
         before, between, behind = 9, 3, 1
         sizes = before + measured.counts + between + passed + behind
         firsts = numpy.cumsum(sizes) - sizes
         parts, middle = numpy.empty(int(sizes.sum()), object), firsts + before + measured.counts
         metres = column_of(list(map(repr, measured.metres.tolist())))
         for place, column in enumerate((
-            ', {"distance": ', metres, ', "duration": ', seconds, ', "weight": ', seconds, members, open_line, measured.begins,
+            ', {"distance": ', metres, ', "duration": ', seconds, ', "weight": ', seconds, members,
+            open_line, measured.begins
         )):
             parts[firsts + place] = column
         parts[firsts[order.begins]] = '[{"distance": '
         parts[ranges(firsts + before, measured.counts)] = self.drawn.stretches.texts
         # A line has at least two places.
-        is_short = numpy.append(0, numpy.cumsum(self.drawn.stretches.has_places))[numpy.cumsum(measured.counts)]
+        is_short = numpy.append(
+            0, numpy.cumsum(self.drawn.stretches.has_places))[numpy.cumsum(measured.counts)]
         is_short = numpy.diff(is_short, prepend=0) == 0
         parts[middle] = ""
-        parts[middle[is_short]] = polylines.SAME if alone is None else column_of([f"{alone}{begin}" for begin in measured.begins[is_short].tolist()])
+        parts[middle[is_short]] = (
+            polylines.SAME if alone is None
+            else column_of([f"{alone}{begin}" for begin in measured.begins[is_short].tolist()]))
         parts[middle + 1], parts[middle + 2] = close_line, maneuvers
         parts[ranges(middle + between, passed)] = crossings
         lasts = firsts + sizes - 1
@@ -242,7 +284,8 @@ class Lines:
         return ["".join(listed[first:last]) for first, last in zip(cuts, cuts[1:])]
 
     def ends(self) -> Iterator[tuple[str, str]]:
-        """For each leg the maneuver of its departure with the crossing there, and the same of its arrival, as texts of JSON."""
+        """For each leg the maneuver of its departure with the crossing there, and the same of its
+        arrival, as texts of JSON."""
         columns = (self.drawn.begins, self.drawn.lasts, *self.ways())
         for begin, last, ahead, came in zip(*(column.tolist() for column in columns)):
             start, goal = f'"location": {begin}', f'"location": {last}'
@@ -250,14 +293,16 @@ class Lines:
             arrive = maneuver("arrive", f'{goal}, "bearing_before": {came}, "bearing_after": 0')
             yield (
                 f'{depart}{{{start}, "bearings": [{ahead}], "entry": [true], "out": 0}}',
-                f'{arrive}{{{goal}, "bearings": [{(came + 180) % 360}], "entry": [true], "in": 0}}',
-            )
+                f'{arrive}{{{goal}, "bearings": [{(came + 180) % 360}], "entry": [true], "in": 0}}')
 
     def ways(self) -> tuple[Integers, Integers]:
-        """The directions in which legs leave their first places, and come to their last ones; 0 of legs that stay at one place."""
+        """The directions in which legs leave their first places, and come to their last ones; 0 of
+        legs that stay at one place."""
         found, ways = self.drawn.stretches, numpy.zeros((2, len(self.firsts) - 1), numpy.int64)
         with_places = numpy.flatnonzero(found.has_places)
         cuts = with_places.searchsorted(self.firsts)
         moving = numpy.flatnonzero(cuts[1:] > cuts[:-1])
-        ways[0][moving], ways[1][moving] = found.aheads[with_places[cuts[:-1][moving]]], found.cames[with_places[cuts[1:][moving] - 1]]
+        ways[0][moving], ways[1][moving] = (
+            found.aheads[with_places[cuts[:-1][moving]]],
+            found.cames[with_places[cuts[1:][moving] - 1]])
         return ways[0], ways[1]

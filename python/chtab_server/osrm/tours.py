@@ -1,7 +1,9 @@
-"""Finds short orders of places for a trip over all of them (the asymmetric travelling salesman problem).
+"""Finds short orders of places for a trip over all of them (the asymmetric travelling salesman
+problem).
 
-For few places each order is tried. For more, the nearest place comes next, and then the order is improved as long as that helps, by reversing a
-stretch (Croes 1958) or by moving a stretch of up to three places (Or 1976). This is a heuristic, so a shorter order may exist.
+For few places each order is tried. For more, the nearest place comes next, and then the order is
+improved as long as that helps, by reversing a stretch (Croes 1958) or by moving a stretch of up to
+three places (Or 1976). This is a heuristic, so a shorter order may exist.
 """
 from __future__ import annotations
 
@@ -17,13 +19,17 @@ if TYPE_CHECKING:
 # The length that a change adds to a round trip, and a function that makes the changed order.
 Change: TypeAlias = "tuple[int, Callable[[], Integers]]"
 
-# The most places, one of them fixed, for which each order is tried; and the most places that are moved together.
+# The most places, one of them fixed, for which each order is tried; and the most places that are
+# moved together.
 FEW, STRETCH = 8, 3
 # The cost of a missing way, small enough that the sum over all places fits into 64 bits.
 NONE = 1 << 48
 
 
-def tour(costs: Integers, is_round: bool = True, is_first_fixed: bool = False, is_last_fixed: bool = False) -> Integers:
+def tour(
+    costs: Integers, is_round: bool = True, is_first_fixed: bool = False,
+    is_last_fixed: bool = False,
+) -> Integers:
     """Finds an order of all places, 0 to n - 1.
 
     Parameters
@@ -69,7 +75,8 @@ def circle(links: Integers) -> Integers:
 
 def best_of_all(links: Integers) -> Integers:
     """The shortest of all orders that start with place 0."""
-    orders = numpy.array([(0, *rest) for rest in itertools.permutations(range(1, len(links)))], numpy.int64)
+    orders = numpy.array(
+        [(0, *rest) for rest in itertools.permutations(range(1, len(links)))], numpy.int64)
     return orders[links[orders, numpy.roll(orders, -1, axis=1)].sum(axis=1).argmin()]
 
 
@@ -86,7 +93,9 @@ def nearest_next(links: Integers) -> Integers:
 def improved(links: Integers, order: Integers) -> Integers:
     """Improves an order by the best change each time, until none helps."""
     while True:
-        changes = [turned_round(links, order), *(moved(links, order, length) for length in range(1, STRETCH + 1))]
+        changes = [
+            turned_round(links, order),
+            *(moved(links, order, length) for length in range(1, STRETCH + 1))]
         gain, better = min(changes, key=lambda change: change[0])
         if gain >= 0:
             return order
@@ -94,19 +103,25 @@ def improved(links: Integers, order: Integers) -> Integers:
 
 
 def turned_round(links: Integers, order: Integers) -> Change:
-    """The best reversal of a stretch: the length that it adds, and a function that makes the order. The first place stays."""
+    """The best reversal of a stretch: the length that it adds, and a function that makes the order.
+    The first place stays."""
     count, ahead = len(order), numpy.roll(order, -1)
-    forth, back = (numpy.append(0, numpy.cumsum(column)) for column in (links[order, ahead], links[ahead, order]))
+    forth, back = (
+        numpy.append(0, numpy.cumsum(column))
+        for column in (links[order, ahead], links[ahead, order]))
     places = numpy.arange(1, count)
     first, last = places[:, None], places[None, :]
     before = order[first - 1]
     after = ahead[last]
-    gains = links[before, order[last]] - links[before, order[first]] + links[order[first], after] - links[order[last], after]
+    gains = links[before, order[last]] - links[before, order[first]] + links[
+        order[first], after] - links[order[last], after]
     gains = gains + (back[last] - back[first]) - (forth[last] - forth[first])
     gains[first >= last] = 1
     at = int(gains.argmin())
     start, stop = at // (count - 1) + 1, at % (count - 1) + 1
-    return int(gains.min()), lambda: numpy.concatenate([order[:start], order[start:stop + 1][::-1], order[stop + 1:]])
+    return (
+        int(gains.min()),
+        lambda: numpy.concatenate([order[:start], order[start:stop + 1][::-1], order[stop + 1:]]))
 
 
 def moved(links: Integers, order: Integers, length: int) -> Change:
@@ -116,7 +131,8 @@ def moved(links: Integers, order: Integers, length: int) -> Change:
     last, into = first + length - 1, numpy.arange(count)[None, :]
     before, after, target = order[first - 1], ahead[last], order[into]
     gains = links[before, after] - links[before, order[first]] - links[order[last], after]
-    gains = gains + links[target, order[first]] + links[order[last], ahead[into]] - links[target, ahead[into]]
+    gains = gains + links[target, order[first]] + links[order[last], ahead[into]] - links[
+        target, ahead[into]]
     gains[(into >= first - 1) & (into <= last)] = 1
     at = int(gains.argmin())
     start, place = at // count + 1, at % count

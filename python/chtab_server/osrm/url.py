@@ -1,4 +1,5 @@
-"""The words of an address: `/SERVICE/VERSION/PROFILE/COORDINATES?NAME=VALUE&..`, decoded after they were taken apart. `options` reads the query."""
+"""The words of an address: `/SERVICE/VERSION/PROFILE/COORDINATES?NAME=VALUE&..`, decoded after they
+were taken apart. `options` reads the query."""
 from __future__ import annotations
 
 import re
@@ -24,7 +25,8 @@ POLYLINE = re.compile(r"polyline(6?)\((.*)\)", re.DOTALL)
 
 
 class Words(NamedTuple):
-    """The words of an address: the service, the profile, and the coordinates and the options as texts."""
+    """The words of an address: the service, the profile, and the coordinates and the options as
+    texts."""
 
     service: str
     profile: str
@@ -46,7 +48,9 @@ def words_of(target: str, most: int) -> Words:
     if len(parts) > 1 and text_of(parts[1]) != VERSION:
         raise Refusal("InvalidVersion", f"the version is {VERSION}")
     if len(parts) != 4 or not all(parts):
-        raise Refusal("InvalidUrl", f"an address has the form /{service}/{VERSION}/PROFILE/COORDINATES?NAME=VALUE&..")
+        raise Refusal(
+            "InvalidUrl",
+            f"an address has the form /{service}/{VERSION}/PROFILE/COORDINATES?NAME=VALUE&..")
     coordinates = text_of(parts[3])
     if coordinates.endswith(".flatbuffers"):
         raise unsupported("flatbuffers")
@@ -54,7 +58,8 @@ def words_of(target: str, most: int) -> Words:
 
 
 def posted(target: str, body: bytes) -> str:
-    """The target of a request by POST, whose body has the coordinates and the options: what follows the profile in an address."""
+    """The target of a request by POST, whose body has the coordinates and the options: what follows
+    the profile in an address."""
     if "?" in target:
         raise Refusal("InvalidUrl", "options are in the body: COORDINATES?NAME=VALUE&..")
     try:
@@ -69,7 +74,10 @@ def coordinates_of(text: str, most: int) -> list[Point]:
     found = decoded(line[2], 6 if line[1] else 5, most) if line else listed(text, most)
     for index, (longitude, latitude) in enumerate(found):
         if not (-180 <= longitude <= 180 and -90 <= latitude <= 90):
-            raise Refusal("InvalidValue", f"coordinate {index} is not a longitude from -180 to 180 and a latitude from -90 to 90")
+            raise Refusal(
+                "InvalidValue",
+                f"coordinate {index} is not a longitude from -180 to 180 and a latitude from -90 "
+                "to 90")
     return found
 
 
@@ -77,7 +85,9 @@ def listed(text: str, most: int) -> list[Point]:
     if text.count(";") >= most:
         raise Refusal("TooBig", f"at most {most:,} coordinates")
     if not COORDINATES.fullmatch(text):
-        index = next(index for index, part in enumerate(text.split(";")) if not COORDINATE.fullmatch(part))
-        raise Refusal("InvalidQuery", f"coordinate {index} is not a longitude and a latitude, as 9.52,47.14")
+        index = next(
+            index for index, part in enumerate(text.split(";")) if not COORDINATE.fullmatch(part))
+        raise Refusal(
+            "InvalidQuery", f"coordinate {index} is not a longitude and a latitude, as 9.52,47.14")
     numbers = iter(map(float, text.replace(";", ",").split(",")))
     return list(zip(numbers, numbers))
