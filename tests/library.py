@@ -337,7 +337,7 @@ def refuse_quickly(tally, library):
 
 
 def refuse_likes(tally, library):
-    """What is wrong is told in the order that the header says, and both handles stay."""
+    """Faults are reported in the order of the header, and both handles stay."""
     status, handle, _ = library.open(LINE, OF_LINE)
     wide = LINE.replace(b"p sp 3", b"p sp 4")
     for graph, fresh, name, told in (
@@ -384,7 +384,7 @@ def complete(nodes):
 
 
 def refuse_topologies(tally, library):
-    """What is wrong with a graph or an order is told, and the topology stays closed. Of n nodes that are all joined there are
+    """Faults of a graph or an order are reported, and the topology stays closed. Of n nodes that are all joined there are
     n (n - 1) (n - 2) / 6 triangles: 16 nodes have 560, and 17 have 680, which are just 40 a node; 18 have more."""
     for *given, name, told in FAULTY_TOPOLOGIES:
         status, topology, fault = library.topology_open(*given)
@@ -404,7 +404,7 @@ def refuse_topologies(tally, library):
 
 
 def refuse_weights(tally, library):
-    """What is wrong with weights is told in the order that the header says. The handle stays closed, the topology stays as it is, and each network that
+    """Faults of weights are reported in the order of the header. The handle stays closed, the topology stays as it is, and each network that
     was opened before answers on. A topology of another graph takes as many weights as that graph has arcs."""
     status, topology, _ = library.topology_open(LINE, ORDER)
     _, first, _ = library.customized(topology, [4, 5])

@@ -252,7 +252,7 @@ def a_new_network_without_a_lost_request():
 
 def speeds_that_are_refused():
     """A service does not start with a file of speeds that is wrong, nor on a network without the map's numbers. While it answers, a wrong file leaves the
-    speeds before, is told once, and the next right one is taken; health and metrics have the age."""
+    speeds before, is reported once, and the next right one is taken; health and metrics have the age."""
     copied("net")
     path = pathlib.Path("speeds.csv")
     nodes = int(re.search(r"^p sp (\d+)", pathlib.Path("net.gr").read_text(), re.MULTILINE)[1])

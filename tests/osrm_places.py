@@ -87,7 +87,7 @@ def bearings_hold_where_turns_are_forbidden():
 
 def routes_go_straight_on_at_stops():
     """At a stop in the middle of a road a route goes on as it came, by default too; it may turn round there where it is allowed to, or has to. The
-    duration is the least of those by which the stop is come to and left in one direction, which tables with bearings have."""
+    duration is the least of those that come to the stop and leave it in one direction, which tables with bearings have."""
     comments = "c Roads for cars, by hand.\nc Weights are milliseconds.\n"
     # A road from west to east, and one way round the block from its east end back to its west end.
     nodes = [(9.5, 47.1), (9.51, 47.1), (9.52, 47.1), (9.51, 47.2)]
@@ -322,8 +322,8 @@ def places_that_are_kept_change_no_answer():
 
 
 def drawn_target(draw, known):
-    """The target of a request for a table, a route or the nearest road, some with options by which
-    places are taken to other spots than those that are kept."""
+    """The target of a request for a table, a route or the nearest road, some with options that take
+    places to other spots than those that are kept."""
     asked = ("table", 9), ("table", 3), ("route", 2), ("route", 4), ("nearest", 1)
     name, count = draw.choice(asked)
     chosen = drawn_coordinates(draw, known, count)[:1 if name == "nearest" else None]

@@ -228,7 +228,7 @@ def sizes_of(words: argparse.Namespace) -> answering.Limits:
 
 
 def choices_of(words: argparse.Namespace) -> Choices:
-    """What the words of the command line choose for the service."""
+    """The choices that the options of the command line make for the service."""
     from chtab_server.connections import caps_of
     from chtab_server.requests import Limits
     from chtab_server.service import Choices

@@ -77,7 +77,7 @@ class Caller:
         names = "OK", "BAD_GRAPH", "BAD_SAVED", "WRONG_SAVED"
         self.expect(status in [STATUS[name] for name in names], "opened changed files", status)
         is_told = fault.told() != (0, 0, 0)
-        self.expect(is_told == (status != 0) and bool(handle.is_open) == (status == 0), "what is told of changed files", status, fault.told())
+        self.expect(is_told == (status != 0) and bool(handle.is_open) == (status == 0), "the fault of changed files", status, fault.told())
         self.expect(self.library.close(handle) == (STATUS["OK"] if status == 0 else STATUS["CLOSED"]), "closed changed files", status)
 
     def open_arrays(self):
@@ -120,7 +120,7 @@ class Caller:
         graph = changed(self.draw, self.graph) if self.draw.random() < 0.5 else self.graph
         status, handle, fault = self.library.open_quick(graph)
         self.expect(status == STATUS["OK"] or status == STATUS["BAD_GRAPH"] and graph != self.graph, "opened alone", graph, status)
-        self.expect((fault.told() != (0, 0, 0)) == (status != 0) and bool(handle.is_open) == (status == 0), "what is told of it", status, fault.told())
+        self.expect((fault.told() != (0, 0, 0)) == (status != 0) and bool(handle.is_open) == (status == 0), "the fault", status, fault.told())
         self.expect(self.library.close(handle) == (STATUS["OK"] if status == 0 else STATUS["CLOSED"]), "closed what was alone", status)
 
     def open_like(self):
@@ -139,7 +139,7 @@ class Caller:
         else:
             names = {"BAD_GRAPH", "OTHER_NODES", last}
         self.expect(status in [STATUS[name] for name in names], "opened like", fresh, count, given, status, names)
-        self.expect((fault.told() != (0, 0, 0)) == (status == STATUS["BAD_GRAPH"]), "what is told of it", status, fault.told())
+        self.expect((fault.told() != (0, 0, 0)) == (status == STATUS["BAD_GRAPH"]), "the fault", status, fault.told())
         if is_open or status != STATUS["OK"]:
             self.expect(bool(handle.is_open) == bool(is_open), "a handle that is not opened stays", status)
             return
@@ -172,7 +172,7 @@ class Caller:
             names = {"OK", "TRIANGLES"} if self.count > 17 else {"OK"}
         self.expect(status in [STATUS[name] for name in names], "opened a topology", graph, given, status, names)
         has_fault = status in [STATUS[name] for name in ("BAD_GRAPH", "BAD_SAVED", "WRONG_SAVED")]
-        self.expect((fault.told() != (0, 0, 0)) == has_fault, "what is told of a topology", status, fault.told())
+        self.expect((fault.told() != (0, 0, 0)) == has_fault, "the fault of a topology", status, fault.told())
         if is_open or status != STATUS["OK"]:
             self.expect(bool(topology.is_open) == bool(is_open), "a topology that is not opened stays", status)
         elif graph != self.graph:

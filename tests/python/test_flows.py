@@ -226,7 +226,7 @@ def test_tables_of_demands_as_frames():
 
 
 def test_tables_of_demands_that_are_refused():
-    """What is no demand is named by its cell, nothing is guessed of other shapes, and no flow is told of a table that is refused."""
+    """What is no demand is named by its cell, nothing is guessed of other shapes, and no flow is returned for a table that is refused."""
     import numpy
     import pandas
 

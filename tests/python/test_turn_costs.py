@@ -175,7 +175,7 @@ def test_lights_count_in_their_direction():
 
 
 def test_the_option():
-    """It is for cars and for times, goes without --turns, and is told in the files; without it
+    """It is for cars and for times, goes without --turns, and is named in the files; without it
     nothing is known of lights."""
     pathlib.Path("four.osm").write_text(roads(WEST, NORTH, EAST, SOUTH, at=SIGNALS))
     for words in ["--profile", "foot"], ["--metric", "metres"]:

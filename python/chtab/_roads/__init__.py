@@ -12,7 +12,7 @@ is reached.
 | `equilibrium` | traffic at user equilibrium |
 | `exporting` | a network as frames of geopandas, and the parts that it falls into |
 | `snapping` | the roads of a graph, and places that are taken to them |
-| `leaving` | the nodes by which trips leave roads and come to them |
+| `leaving` | the nodes where trips leave roads and come to them |
 | `nearest` | the nodes nearest to places |
 | `lines` | lines on the earth in flat arrays |
 | `sphere` | lengths on the earth |

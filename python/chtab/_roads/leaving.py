@@ -1,4 +1,4 @@
-"""The nodes by which trips leave roads and come to them, with the weights of the way there."""
+"""The nodes where trips leave roads and come to them, with the weights of the way there."""
 from __future__ import annotations
 
 from typing import TYPE_CHECKING, NamedTuple

@@ -201,7 +201,7 @@ class Given(NamedTuple):
     # What is added.
 
     def added(self, given: Any, weighing: Weighing) -> New:
-        """The arcs that are added, by which all that arrive at their sources may go on."""
+        """The added arcs, which all trips that arrive at their sources may take."""
         if given is None:
             return New(NOTHING, NOTHING, NOTHING, NOTHING, 0, None, [], 0.0)
         sources, targets, weights, lines = columns_of_added(given)

@@ -33,7 +33,7 @@ TRIED, SWEPT, MOST_NODES = 8, 100, 1 << 20
 
 
 class Path(NamedTuple):
-    """A way between two spots over nodes: its weight, the columns of the nodes by which it leaves
+    """A way between two spots over nodes: its weight, the columns of the nodes where it leaves
     the first spot and comes to the last one, and its arcs."""
 
     weight: int

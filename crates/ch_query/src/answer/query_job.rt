@@ -14,7 +14,7 @@ use std::marker::Model;
 /// The job that answers queries by a hierarchy, with routes or without.
 #[derive(Drop)]
 pub struct QueryJob<'a> {
-    /// The hierarchy by which the queries are answered.
+    /// The hierarchy that answers the queries.
     pub hierarchy: &'a Hierarchy,
     /// Whether the answers have the arcs of their routes.
     pub routes: bool,

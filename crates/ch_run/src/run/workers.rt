@@ -1,4 +1,4 @@
-//! The jobs by which workers write answers and the rows of a table. Each line is written by the worker that found what it says.
+//! The jobs of workers that write answers and the rows of a table. Each line is written by the worker that found what it says.
 use super::lines::LineJob;
 use ch_contract::Hierarchy;
 use ch_query::{QueryJob, Scratch, Sides, answer_one, answer_with_route};
