@@ -173,6 +173,25 @@ class Inputs:
         return path
 
 
+class Great(Inputs):
+    """The same on roads that are drawn by numpy, since Python alone takes an hour for millions of nodes."""
+    maker = "country_roads.py"
+
+
+class Cities(Inputs):
+    """The same on roads with the small cuts of real maps, of about so many nodes."""
+    maker = "cities.py"
+
+    def network(self):
+        graph = super().network()
+        self.nodes = nodes_of(graph)
+        return graph
+
+    @property
+    def name(self):
+        return f"roads with small cuts, {self.nodes:,} nodes"
+
+
 class Country(Inputs):
     """The same on the shipped network of Liechtenstein."""
 
@@ -220,9 +239,11 @@ class File(Inputs):
         return f"{self.path.name}, {self.nodes:,} nodes"
 
 
+# Larger networks are made by numpy.
+MOST_NODES_IN_PYTHON = 2_000_000
 # The words for networks.
-NETWORKS = "shipped: the network of Liechtenstein in examples/; bends: the same with a node at each bend; a number: a road network of so many nodes; \
-FILE.gr: that of a file"
+NETWORKS = "shipped: the network of Liechtenstein in examples/; bends: the same with a node at each bend; a number: roads of so many nodes with the \
+cuts of a grid; cities-NUMBER: such with small cuts; FILE.gr: the network of a file"
 
 
 def network(word):
@@ -230,7 +251,11 @@ def network(word):
     named = {"shipped": Country, "bends": Bends}
     if word in named:
         return named[word]()
-    return File(word) if word.endswith(".gr") else Inputs(int(word))
+    if word.startswith("cities-"):
+        return Cities(int(word.removeprefix("cities-")))
+    if word.endswith(".gr"):
+        return File(word)
+    return Great(int(word)) if int(word) > MOST_NODES_IN_PYTHON else Inputs(int(word))
 
 
 def add_networks(parser, *default):

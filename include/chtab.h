@@ -294,6 +294,17 @@ uint32_t chtab_route_sums(chtab *handle, const uint32_t *sources, size_t sources
                           size_t targets_len, const uint64_t *values, size_t values_len, uint64_t *pairs,
                           uint64_t *weights, size_t weights_len, uint64_t *sums, size_t sums_len);
 
+/* Writes the weights and the sums of a table, and the number of cells to `cells`. The route from sources[i] to targets[j] has
+ * its weight in weights[i * targets_len + j], and the sum of the values on the lines of its arcs at the same place of `sums`,
+ * both as chtab_route_sums gives them. weights_len and sums_len are sources_len times targets_len, and values_len is the number
+ * of arcs of the graph's file. The call takes one search for each source and each target. It keeps a copy of the values with the
+ * handle, and a word for each leg of the hierarchy: the first call with other values takes longer.
+ * Errors: CHTAB_CLOSED, CHTAB_LENGTHS, CHTAB_NODE_RANGE. With CHTAB_SUM_TOO_LARGE or CHTAB_NO_MEMORY the first cells are written,
+ * row after row, and `cells` is their number: the sum of the next cell is 2^64 or more, or there is no memory for it. */
+uint32_t chtab_table_sums(chtab *handle, const uint32_t *sources, size_t sources_len, const uint32_t *targets,
+                          size_t targets_len, const uint64_t *values, size_t values_len, uint64_t *cells,
+                          uint64_t *weights, size_t weights_len, uint64_t *sums, size_t sums_len);
+
 /* Writes flows on the lines of the graph's file, and the number of pairs without a walk to `missed`. demands[i] is what goes
  * from sources[i] to targets[i], and flows[l] is the sum of the demands of the pairs whose routes take the arc on line l. Lines
  * count from 0, and flows_len is the number of the graph's arcs. Routes are those of chtab_routes: of several arcs between two

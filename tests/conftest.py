@@ -1,4 +1,4 @@
-"""What all tests of Python share: the built program, the library for C, random graphs, the folder and the packages of a test, and the last line.
+"""What all tests of Python share: the built program, the library for C, the folder and the packages of a test, and the last line.
 
 The scripts that test the service and its page are files of tests here too: each check of their `GROUPS` is a test by its own name.
 
@@ -13,7 +13,7 @@ import tempfile
 
 import pytest
 
-from helpers import columns, in_process, packages, running
+from helpers import in_process, packages, running
 
 
 # Each can also be run by itself, as `./check` does.
@@ -53,13 +53,6 @@ def program():
 def library(program):
     """The path of the library for C, which is made first where that is needed."""
     return in_process.make()
-
-
-@pytest.fixture
-def random_graphs():
-    """A call that draws so many small graphs: for each its seed, the source of randomness, the arcs in three columns (`tails`, `heads`,
-    `weights`) of nodes from 0 on, labels of the nodes, and all distances by scipy, -1 where there is no walk."""
-    return columns.random_graphs
 
 
 @pytest.fixture(autouse=True)

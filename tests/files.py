@@ -39,6 +39,9 @@ KINDS = [
     (["dist"], ["graph", "order", "queries"]),
     (["table"], ["graph", "order", "sources", "targets"]),
     (["near", "--all"], ["graph", "order", "targets"]),
+    (["dist", "--customizable"], ["graph", "order", "queries"]),
+    (["table", "--customizable"], ["graph", "order", "sources", "targets"]),
+    (["near", "--customizable"], ["graph", "sources", "targets"]),
 ]
 
 # The faults of files, those of saved hierarchies, that of orders, and that none is found.
@@ -293,7 +296,7 @@ def read_long_orders(tally, folder):
 
 def main():
     how_many = int(sys.argv[1]) if len(sys.argv) > 1 else 2000
-    seed = sys.argv[2] if len(sys.argv) > 2 else "faulty files"
+    seed = sys.argv[2] if len(sys.argv) > 2 else "drawn files"
     build()
     tally = Count()
     with tempfile.TemporaryDirectory() as place:

@@ -74,7 +74,11 @@ def run_python(tally, page, folder):
 
 def run_command(tally, command, wanted, folder):
     done = subprocess.run(command, shell=True, cwd=folder, capture_output=True, text=True)
-    is_wanted = (done.returncode, PROGRESS.sub("", done.stderr), done.stdout) == (0, "", wanted)
+    printed = PROGRESS.sub("", done.stderr)
+    if "| head" in command:
+        # On a busy machine the reader may be gone before the last part is written.
+        printed = re.sub(r"chtab: cannot write after \d+ bytes\n", "", printed)
+    is_wanted = (done.returncode, printed, done.stdout) == (0, "", wanted)
     tally.expect(is_wanted, f"{command}\n  status {done.returncode}\n  wanted: {wanted}\n  came:   {done.stdout}{done.stderr}")
 
 

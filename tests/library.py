@@ -300,6 +300,24 @@ def refuse_large_route_sums(tally, library):
     library.close(handle)
 
 
+def refuse_large_table_sums(tally, library):
+    """A sum of 2^64 or more in a table ends the call before its cell. One less is given. Lengths come before nodes."""
+    status, handle, _ = library.open(LINE, OF_LINE)
+    half = 2**63
+    told = library.table_sums(handle, [0, 2], [1, 2], [half, half - 1])
+    tally.expect(told == (0, 4, [4, 9, NO_DISTANCE, 0], [half, 2**64 - 1, 0, 0]), f"the greatest sums of a table: {told}")
+    told = library.table_sums(handle, [1, 0], [1, 2], [half, half])
+    tally.expect(told == (STATUS["SUM_TOO_LARGE"], 3, [0, 5, 4, 7], [0, half, half, 7]), f"a sum of a table that is too large: {told}")
+    for sources, targets, values, rooms, name in (
+        ([9], [0, 0], [1, 1], (1, 2), "LENGTHS"), ([9], [0], [1, 1], (1, 2), "LENGTHS"), ([9], [0], [1], (1, 1), "LENGTHS"),
+        ([3], [0], [1, 1], (1, 1), "NODE_RANGE"), ([0], [3], [1, 1], (1, 1), "NODE_RANGE"), ([], [0], [1, 1], (0, 0), "OK"), ([0], [], [1, 1], (0, 0), "OK"),
+    ):
+        told = library.table_sums(handle, sources, targets, values, *rooms)
+        tally.expect(told == (STATUS[name], 7 if STATUS[name] else 0, [7] * rooms[0], [7] * rooms[1]), f"a table of sums {sources} {targets} {values}: {told}")
+    tally.expect(library.table_sums(Handle(), [0], [1], [1, 1])[0] == STATUS["CLOSED"], "a table of sums by a closed handle")
+    library.close(handle)
+
+
 def refuse_large_flows(tally, library):
     """A flow of more than 2^63 refuses all flows, also after others were given, and 2^63 is given. Lengths come before nodes."""
     status, handle, _ = library.open(LINE, OF_LINE)
@@ -465,6 +483,7 @@ def main():
     tell_faults(tally, library)
     refuse_large_sums(tally, library)
     refuse_large_route_sums(tally, library)
+    refuse_large_table_sums(tally, library)
     refuse_large_flows(tally, library)
     refuse_quickly(tally, library)
     refuse_likes(tally, library)

@@ -134,6 +134,8 @@ def compare_table_sums(tally, library, graph, hierarchy):
         sums = [sum(values[line] for line in lines[begin + 1:end]) for begin, end in zip([0, *ends], ends)]
         told = library.route_sums(handle, sources, targets, values)
         tally.expect(told == (0, len(sources), weights, sums), f"{graph.name}: sums along the routes of a table")
+        told = library.table_sums(handle, rows, columns, values)
+        tally.expect(told == (0, len(sources), weights, sums), f"{graph.name}: a table of sums along routes")
     library.close(handle)
 
 

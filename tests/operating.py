@@ -12,6 +12,7 @@ import http.client
 import json
 import os
 import pathlib
+import random
 import re
 import shutil
 import signal
@@ -21,12 +22,18 @@ import threading
 import time
 import urllib.parse
 
+import numpy
+
 from helpers import running
+from helpers.maps import town_at_a_cost
 from helpers.moods import STANDIN, holding, mood
 from helpers.packages import PYTHON, run_checks
 from helpers.running import PROGRAM, ROOT
 from helpers.serving import COUNTRY, SERVICE, ask, children_of, raw, running_service, send, told
 from helpers.waiting import PATIENCE, until
+import chtab
+from chtab_server import speeds
+from chtab_server.osrm import answering
 
 ROUTE = "/route/v1/car/9.5209,47.1410;9.5450,47.2200?overview=false"
 
@@ -300,6 +307,24 @@ def pairs_of(graph, numbers):
     return [(numbers[int(tail) - 1], numbers[int(head) - 1]) for tail, head in re.findall(r"^a (\d+) (\d+)", pathlib.Path(graph).read_text(), re.MULTILINE)]
 
 
+def speeds_keep_the_costs_of_turns():
+    """Where turns cost time, a speed takes the place of the map's on the road alone: each turn costs what it did, at its light too."""
+    out, draw = town_at_a_cost(), random.Random("speeds and turns")
+    with chtab.Network.open(f"{out}.gr", program=PROGRAM) as network:
+        roads, numbers = network.roads, answering.numbers_in(f"{out}.nodes", network.nodes)
+        ends = list(zip(numbers[roads.tails - 1].tolist(), numbers[roads.heads - 1].tolist()))
+        given = {pair: draw.choice((7.5, 30, 130)) for pair in sorted(set(ends)) if draw.random() < 0.6}
+        columns = map(numpy.array, zip(*((*pair, speed) for pair, speed in given.items())))
+        weights, _ = speeds.Pieces(roads, numbers).weighed(speeds.Speeds(*columns, (0, 0, 0, 0)))
+        counts = collections.Counter()
+        for arc, (pair, weight, before) in enumerate(zip(ends, weights.tolist(), roads.weights.tolist())):
+            road, is_met = int(roads.road_of[arc]), pair in given
+            wanted = before if road < 0 or not is_met else max(1, round(float(roads.lines.metres[road]) * 3_600 / given[pair]))
+            assert abs(weight - wanted) <= is_met and (road >= 0 or weight == before), (arc, pair, weight, wanted)
+            counts[road >= 0, is_met, before > 0] += 1
+        assert min(counts[True, True, True], counts[True, False, True], counts[False, True, True]) > 50, counts
+
+
 def it_says_that_connections_close():
     """While it ends after another service took its port over, each answer says that the connection closes, and idle clients have a while for one."""
     patient = "--grace", 2 * PATIENCE, "--ending", 2 * PATIENCE, "--idle", 2 * PATIENCE
@@ -369,7 +394,7 @@ GROUPS = (
         files_that_are_changed, health_is_no_better_than_answers, addresses_that_proxies_name,
         requests_that_once_failed, files_that_are_missing, a_second_service_on_the_port, it_says_that_connections_close,
         systemd_is_notified, the_log_says_why,
-        files_that_are_replaced, a_new_network_without_a_lost_request, speeds_that_are_refused,
+        files_that_are_replaced, a_new_network_without_a_lost_request, speeds_that_are_refused, speeds_keep_the_costs_of_turns,
     ]),
 )
 

@@ -30,6 +30,8 @@ from chtab_server.osrm.nearby import find_some, one_sided  # noqa: E402
 
 # What lies between the places of a leg, as annotations name it.
 PARTS = "duration", "distance", "weight", "speed", "datasources"
+# Queries of tables, of which the first ones are those of small tables.
+QUERIES = "", "", "annotations=duration", "skip_waypoints=true", "generate_hints=false", "sources=0", "scale_factor=2", "annotations=duration,distance"
 
 
 def bearings_choose_the_way():
@@ -379,9 +381,38 @@ def small_tables_are_those_of_large_ones():
             assert seen.real > 0 and seen.imag > 20, seen
 
 
+def tables_that_are_answered_together_are_those_of_each():
+    """Small tables that are answered together are those that are answered alone, each in its place
+    and byte by byte; also beside others, with places twice, on one road, and without a way."""
+    draw, nulls = random.Random("tables together"), 0
+    ring = [(9.5, 47.1), (9.51, 47.1), (9.51, 47.11), (9.5, 47.11)]
+    arcs = [(node, node % 4 + 1, 10_000 * node) for node in range(1, 5)]
+    arcs += [(head + 4, tail + 4, weight) for tail, head, weight in arcs] + [(2, 5, 7)]
+    comments = "c Roads for cars, by hand.\nc Weights are milliseconds.\n"
+    write_network("apart", [*ring, *((x + 0.02, y) for x, y in ring)], arcs, comments)
+    for out in COUNTRY, town(), town_at_a_cost(), "apart":
+        with chtab.Network.open(f"{out}.gr", program=PROGRAM) as network:
+            known = [network.coordinates.of(node) for node in network.coordinates.known()]
+            answers, targets = answering.Answers(network), []
+            for _ in range(120):
+                near = draw.choice((known, draw.choices(known, k=2)))
+                chosen = text_of(drawn_coordinates(draw, near, draw.choice((2, 3, 3, 9))))
+                targets.append(f"/table/v1/x/{chosen}?{draw.choice(QUERIES)}".rstrip("?"))
+            questions = [answers.question(url.words_of(target, 1 << 16)) for target in targets]
+            alone = [str(answers.tables([question])[0]) for question in questions]
+            for first in 0, 40, 80:
+                some = slice(first, first + 40)
+                found = list(map(str, answers.tables(questions[some])))
+                assert found == alone[some], (out, targets[some], found, alone[some])
+            assert 40 < sum(map(answers.is_small, questions)) < 110
+            nulls += sum("null" in text for text in alone)
+    assert nulls > 0, "no way leads between some places"
+
+
 GROUPS = (
     (SERVICE, [
         places_that_are_kept_change_no_answer, small_tables_are_those_of_large_ones,
+        tables_that_are_answered_together_are_those_of_each,
         bearings_choose_the_way, tracks_keep_to_their_directions, places_at_the_curb,
         cells_without_a_way_are_filled, short_roads_have_two_ends,
         *on_all_maps(

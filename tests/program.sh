@@ -131,7 +131,7 @@ for most in 0 60000 300000 1152921504606846976; do
 done
 expect_same_saved "Liechtenstein" "$lg" fifty.p2p from.ss to.ss
 compare "Liechtenstein, saved by two workers" "$(cksum <same.ch)" "$("$root/chtab" save --workers 2 --piece 7 "$lg" | cksum)"
-for order in --deep --quick; do
+for order in --deep --quick --customizable; do
   compare "Liechtenstein, saved $order by two workers" "$("$root/chtab" save $order "$lg" | cksum)" \
     "$("$root/chtab" save $order --workers 2 --piece 7 "$lg" | cksum)"
 done

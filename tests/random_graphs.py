@@ -10,7 +10,9 @@ and `dist --plain`. Distances are those of Dijkstra's algorithm over
 pairs of weight and number of arcs, each route is a walk of the graph of that weight and that number of arcs, and the one that the rules
 name, all runs of one kind write the same bytes, what is saved is the hierarchy that the rules name, and an independent checker finds no
 fault in it. A hierarchy that an independent program makes by an order of its own is accepted, and gives the same distances.
-With `--like`, that order and the hierarchy by it of other weights give the hierarchy that the rules name, and the same distances.
+With `--like`, that order and the hierarchy by it of other weights give the hierarchy that the rules name, and the same distances. With
+`--customizable` too they give the hierarchy that an independent program makes in that order, if it counts at most 40 triangles a node.
+Without a file, what is saved is the one that it makes in the order of that text, for any workers.
 
 With `save --quick`, runs by 1, 2, 3, 4 and 64 workers and with pieces of 1 and 64 nodes write the same text. It is that of the nodes contracted
 in the order that it tells, and gives the same distances. Workers share a job of building only if it has 64 nodes, so a graph of up to 300
@@ -26,7 +28,8 @@ from helpers.running import Count, build, side_by_side
 from oracles.checking import first_fault
 from oracles.contracting import contract_in_order, text_of
 from oracles.reading import read
-from oracles.rules import hierarchy_text, routes_text, text_like, text_quick
+from oracles.rules import hierarchy_text, routes_text, text_customized, text_like, text_quick
+from oracles.topologies import triangles_of
 
 # The words for each order of contraction.
 WORDS = {"difference": (), "depth": ("--deep",)}
@@ -72,13 +75,18 @@ def check_runs(case, folder, *options, order="difference"):
     return text
 
 
+def order_in(case, text):
+    """The nodes of a saved hierarchy in order of level."""
+    _, (order, _) = read("saved", text.encode(), case.nodes)
+    return [node for node, in order]
+
+
 def check_quick(case, folder):
     """With `--quick`, runs with any workers and pieces save one text, that of its order. By it and without it, runs have the right answers."""
     hops = case.hops[0]
     bound = ["--hops", str(hops)]
     saved = folder.save("saved.ch", folder.run("save", "--quick", *bound, "graph.gr"))
-    _, (order, _) = read("saved", saved.encode(), case.nodes)
-    routes = check_text(case, saved, text_quick(case.nodes, case.arcs, hops, [node for node, in order]))
+    routes = check_text(case, saved, text_quick(case.nodes, case.arcs, hops, order_in(case, saved)))
     for share in SHARES:
         assert folder.run("save", "--quick", *share, *bound, "graph.gr") == saved, share
         assert folder.run("dist", *share, *bound, "graph.gr", "queries.p2p") == case.distances(), share
@@ -102,6 +110,28 @@ def check_like(case, folder):
     assert len(texts) == 1, "routes are not those of the rules, or depend on the number of workers, or on the legs of the file"
 
 
+def check_customized(case, folder, order, *options):
+    """Runs with these options customize the hierarchy, in this order or in one that they find, unless that has too many triangles. The text of it."""
+    saved = folder.save("customized.ch", folder.run("save", "--customizable", *options, "graph.gr"))
+    own = order or order_in(case, saved)
+    few = triangles_of(case.nodes, case.arcs, [node - 1 for node in own]) <= 40 * case.nodes
+    customized = text_customized(case.nodes, case.arcs, own)
+    # The order of a hierarchy that is built quickly may have few triangles where the one that was given up has not.
+    is_customized = few and (order is not None or saved == customized)
+    routes = check_text(case, saved, customized if is_customized else text_quick(case.nodes, case.arcs, case.hops[0], order_in(case, saved)))
+    assert check_runs(case, folder, "--saved", "customized.ch") == routes
+    assert check_runs(case, folder, "--customizable", *options) == routes
+    return saved
+
+
+def check_customizable(case, folder):
+    """With `--customizable`, runs take the whole order of a file, or find one that is the same for any workers."""
+    hops = ["--hops", str(case.hops[0])]
+    found = {check_customized(case, folder, None, *hops, *share) for share in (SHARES[0], SHARES[4])}
+    given = {check_customized(case, folder, case.order, *hops, "--like", file) for file in ("order.ch", "ones.ch")}
+    assert len(found) == len(given) == 1, "hierarchies depend on the number of workers, or on the legs of the file"
+
+
 def check_wide_graph(seed):
     case = WideCase(seed)
     with tempfile.TemporaryDirectory() as kept:
@@ -109,6 +139,7 @@ def check_wide_graph(seed):
         case.write(folder)
         check_quick(case, folder)
         check_like(case, folder)
+        check_customizable(case, folder)
 
 
 def check_graph(seed):
@@ -129,6 +160,7 @@ def check_graph(seed):
         assert len(texts) == 2, "routes are not those of the rules, or depend on the number of workers, or on whether the hierarchy was saved"
         check_quick(case, folder)
         check_like(case, folder)
+        check_customizable(case, folder)
         own = contract_in_order(case.nodes, case.arcs, case.order)
         folder.save("own.ch", text_of(case.nodes, case.order, own))
         check_runs(case, folder, "--saved", "own.ch")

@@ -31,7 +31,7 @@ from helpers.asking import answers_after, answers_of, requests_of
 from helpers.refusing import Refusing
 from helpers.running import PROGRAM, ROOT, SECONDS, Answer, Count, agrees, build, run, side_by_side, with_files
 from oracles.reading import read
-from oracles.rules import text_like, text_quick
+from oracles.rules import text_customized, text_like, text_quick
 
 # Requests on a line and on a star, each with its answer.
 LINE_ASKED = [(b"q 1 3\n", b"d 1 3 9\n"), (b"q 3 1\n", b"d 3 1 -\n"), (b"c\nt 2 2\ns 1\ns 3\n\ns 3\ns 2\n", b"t 1 9 4\nt 3 0 -\n"),
@@ -63,6 +63,7 @@ FILES = {
 }
 
 STAR_SAVED = FILES["star.ch"].encode()
+STAR_CUSTOMIZED = text_customized(4, STAR, [2, 1, 3, 4]).encode()
 STAR_ROUTES = b"d 3 4 2\nr 2\na 3 1 1\na 1 4 1\nd 4 2 2\nr 2\na 4 1 1\na 1 2 1\n"
 LINE_ROUTES = b"d 1 3 9\nr 2\na 1 2 4\na 2 3 5\nd 3 1 -\n"
 LINE_TABLE = b"t 1 9 4\nt 1 9 4\nt 3 0 -\n"
@@ -95,6 +96,9 @@ KINDS = {
                                   Answer(0, text_like(4, STAR, 5, [2, 1, 3, 4], 50).encode(), b"")),
     "routes like an order by two workers": (["dist", "--routes", *TWO_WORKERS, "--like", "star.ch", "star.gr", "star.p2p"], Answer(0, STAR_ROUTES, b"")),
     "a table like an order": (["table", "--like", "line.ch", "line.gr", "from.ss", "to.ss"], Answer(0, LINE_TABLE, b"")),
+    "a hierarchy customized in an order": (["save", "--customizable", "--like", "star.ch", "star.gr"], Answer(0, STAR_CUSTOMIZED, b"")),
+    "distances by customization": (["dist", "--customizable", "star.gr", "star.p2p"], Answer(0, b"d 3 4 2\nd 4 2 2\n", b"")),
+    "a table by customization and two workers": (["table", "--customizable", *TWO_WORKERS, "line.gr", "from.ss", "to.ss"], Answer(0, LINE_TABLE, b"")),
     "help": (["--help"], Answer(0, None, b"")),
     "refused words": (["dist", "--fast", "line.gr", "line.p2p"], Answer(2, b"", None)),
     "refused lists": (["near", "--all", "line.gr", "from.ss", "to.ss"], Answer(2, b"", None)),
@@ -116,6 +120,7 @@ ASKS = {
     "requests for routes": (["ask", "--routes", "star.gr"], STAR_ASKED),
     "requests like an order": (["ask", "--like", "line.ch", "line.gr"], LINE_ASKED),
     "requests for routes by a saved hierarchy": (["ask", "--routes", "--saved", "star.ch", "star.gr"], STAR_ASKED),
+    "requests by customization": (["ask", "--customizable", "line.gr"], LINE_ASKED),
 }
 
 # The words that save a hierarchy that is built quickly, with enough nodes for several workers.
@@ -140,6 +145,7 @@ RUNS = {
     "near rows of all nodes like an order": (["near", "--count", "1", "--all"], {"graph": "line.gr", "order": "line.ch", "targets": "to.ss"},
                                              LINE_NEAREST_OF_ALL),
     "routes like an order": (["dist", "--routes"], {"graph": "star.gr", "order": "star.ch", "queries": "star.p2p"}, STAR_ROUTES),
+    "a hierarchy customized in an order": (["save", "--customizable"], {"graph": "star.gr", "order": "star.ch"}, STAR_CUSTOMIZED),
     "requests like an order": (["ask"], {"graph": "line.gr", "order": "line.ch", "requests": "line.txt"}, answers_of(LINE_ASKED)),
     "requests": (["ask"], {"graph": "line.gr", "requests": "line.txt"}, answers_of(LINE_ASKED)),
     "requests by a saved hierarchy": (["ask"], {"graph": "line.gr", "saved": "line.ch", "requests": "line.txt"}, answers_of(LINE_ASKED)),

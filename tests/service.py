@@ -22,7 +22,10 @@ import urllib.parse
 # First of all, since it puts the package on the path.
 from helpers.maps import COUNTRY
 
+import numpy
+
 from helpers import running
+from helpers.asking_osrm import on_sphere, write_network
 from helpers.commands import command
 from helpers.in_process import make
 from helpers.moods import STANDIN, holding, mood
@@ -32,7 +35,7 @@ from helpers.serving import words_of_library
 from helpers.waiting import PATIENCE, until
 import chtab
 from chtab._roads import snapping
-from chtab_server import queue
+from chtab_server import queue, tiles
 
 FIRST_SAVED = ROOT / "examples" / "first.ch"
 # Seconds between two parts of a request, so that they come one by one.
@@ -424,9 +427,39 @@ def what_the_library_lacks_is_told():
         assert done.returncode == 1 and told in done.stderr and "Traceback" not in done.stderr and not done.stdout, (words, done)
 
 
+def tiles_have_each_road_that_is_near():
+    """Tiles of each zoom have the pieces of roads in them and near them, each by its kind, also long ones."""
+    draw = random.Random("tiles")
+    places = [(draw.gauss(10, wide), draw.gauss(50, wide)) for wide in draw.choices((0.002, 0.05, 2), k=300)]
+    pairs = [(one, draw.choice((draw.randint(1, 300), one % 300 + 1))) for one in range(1, 301) for _ in range(2)]
+    metres = [on_sphere(places[one - 1], places[other - 1]) for one, other in pairs]
+    arcs = [(*pair, round(length * 3.6 / draw.uniform(3, 130) * 1000)) for pair, length in zip(pairs, metres)]
+    write_network("far", places, arcs, "c Roads for cars, by hand.\nc Weights are milliseconds.\n")
+    with chtab.Network.open("far.gr", program=PROGRAM) as network:
+        drawn, roads = tiles.Tiles(network.roads, True), network.roads
+        wanted = [[] for _ in tiles.KINDS]
+        for road, (forward, backward, length) in enumerate(zip(roads.forward.tolist(), roads.backward.tolist(), roads.lines.metres.tolist())):
+            speed = length * 3600 / max(1, min(weight for weight in (forward, backward) if weight >= 0))
+            kind = max(place for place, (least, *_) in enumerate(tiles.KINDS) if speed >= least)
+            wanted[kind].append(tiles.world(roads.lines.of(road)).reshape(-1))
+        assert all(len(own) > 20 for own in wanted), [*map(len, wanted)]
+        counts = collections.Counter()
+        for zoom in (0, 3, 6, 9, 12, 13, 14, 17) * 12:
+            corner = numpy.floor(tiles.world(numpy.array([draw.choice(places)])) * 2**zoom)[0].astype(int)
+            for kind, own in enumerate(wanted):
+                ends = numpy.array(own) * 2.0**zoom - numpy.tile(corner, 2)
+                low, high = numpy.minimum(ends[:, :2], ends[:, 2:]), numpy.maximum(ends[:, :2], ends[:, 2:])
+                near = ends[((low <= 1 + 8 / 256) & (high >= -8 / 256)).all(axis=1)]
+                found = drawn.near(kind, zoom, corner)
+                assert sorted(map(tuple, found.round(6).tolist())) == sorted(map(tuple, near.round(6).tolist())), (zoom, corner, kind)
+                counts[zoom] += len(near)
+        assert min(counts.values()) > 0, counts
+
+
 SERVICE = "python3-aiohttp", "python3-numpy", "python3-scipy", "python3-shapely", "libjs-leaflet"
 GROUPS = (
     (SERVICE, [
+        tiles_have_each_road_that_is_near,
         health_is_told_at_once, answers_end_where_they_say, clients_that_do_nothing_are_dropped, ports_that_are_none, what_the_library_lacks_is_told,
         the_loop_answers_for_a_moment_alone, answers_come_in_the_order_of_requests,
         each_form_of_a_request_has_the_same_answer, a_client_that_takes_no_answers_is_held_up,

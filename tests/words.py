@@ -10,7 +10,7 @@ The last line is 'N passed, N failed'.
 """
 import sys
 import tempfile
-from itertools import product
+from itertools import permutations, product
 from pathlib import Path
 
 sys.path.insert(0, str(Path(__file__).resolve().parent.parent / "packaging"))
@@ -19,10 +19,14 @@ import options
 from helpers.running import PROGRAM, ROOT, Answer, Count, agrees, build, run
 
 # A line of three nodes; four nodes with two shortest paths from 2 to 4, of which the orders by difference and by depth take one each; and
-# four nodes with two shortest paths from 4 to 1, of which only the order that `--quick` finds takes the one over 2.
+# four nodes with two shortest paths from 4 to 1, of which only the order that `--quick` finds takes the one over 2. Four nodes with two shortest
+# paths from 1 to 3: where 2 is the lowest node, customization joins 1 and 3 over it, and contraction finds the other path. All of 18 nodes are
+# joined, so that each order has more than 40 triangles a node.
 LINE = "p sp 3 2\na 1 2 4\na 2 3 5\n"
 TIES = "p sp 4 6\na 1 4 1\na 2 1 1\na 2 3 1\na 3 2 1\na 3 4 1\na 4 3 1\n"
 QUICK = "p sp 4 5\na 1 4 1\na 2 1 1\na 3 1 1\na 4 2 1\na 4 3 1\n"
+ROUND = "p sp 4 4\na 1 2 1\na 2 3 1\na 1 4 1\na 4 3 1\n"
+CLIQUE = "p sp 18 306\n" + "".join(f"a {start} {end} 1\n" for start, end in permutations(range(1, 19), 2))
 
 
 def hub(arcs):
@@ -50,6 +54,12 @@ FILES = {
     "quick.gr": QUICK,
     "quick.p2p": "p aux sp p2p 1\nq 4 1\n",
     "quick.txt": "r 4 1\n",
+    "round.gr": ROUND,
+    "round.ch": "p ch 4 0\no 2\no 4\no 1\no 3\n",
+    "round.p2p": "p aux sp p2p 1\nq 1 3\n",
+    "round.txt": "q 1 3\n",
+    "clique.gr": CLIQUE,
+    "clique.p2p": "p aux sp p2p 1\nq 3 18\n",
     "that.ch": "p ch 4 0\no 3\no 2\no 1\no 4\n",
     "order.ch": "p ch 3 0\no 1\no 3\no 2\n",
     "twice.ch": "p ch 3 0\no 1\no 3\no 1\n",
@@ -77,6 +87,9 @@ ONE_BY_ONE = "d 4 1 2\nr 2\na 4 3 1\na 3 1 1\n"
 BY_QUICK = "d 4 1 2\nr 2\na 4 2 1\na 2 1 1\n"
 SAVED_QUICKLY = "p ch 4 6\no 2\no 3\no 1\no 4\nl 2 1 1 1 0\nl 4 2 1 1 0\nl 3 1 1 1 0\nl 4 3 1 1 0\nl 1 4 1 1 0\nl 4 1 2 2 2\n"
 SAVED_IN_THAT_ORDER = "p ch 4 6\no 3\no 2\no 1\no 4\nl 3 1 1 1 0\nl 4 3 1 1 0\nl 2 1 1 1 0\nl 4 2 1 1 0\nl 1 4 1 1 0\nl 4 1 2 2 3\n"
+SAVED_CUSTOMIZED = "p ch 4 5\no 2\no 4\no 1\no 3\nl 2 3 1 1 0\nl 1 2 1 1 0\nl 4 3 1 1 0\nl 1 4 1 1 0\nl 1 3 2 2 2\n"
+OVER_2 = "d 1 3 2\nr 2\na 1 2 1\na 2 3 1\n"
+OVER_4 = "d 1 3 2\nr 2\na 1 4 1\na 4 3 1\n"
 ASKED = "d 1 3 9\nt 2 5 -\n"
 ASKED_FOR_ROUTES = "d 1 3 9\nr 2\na 1 2 4\na 2 3 5\nt 2 5 -\n"
 
@@ -108,6 +121,12 @@ READ = [
     ("dist --routes --fresh=+100 --like first.ch ties.gr ties.p2p", BY_DEPTH),
     ("dist --routes --like ties.ch --workers 64 --piece 1 --hops 16 ties.gr ties.p2p", BY_DEPTH),
     ("dist --plain --like none.ch --fresh 7 line.gr line.p2p", DISTANCES),
+    ("dist --customizable line.gr line.p2p", DISTANCES),
+    ("dist line.gr line.p2p --routes --workers 3 --piece 1 --customizable", ROUTES),
+    ("dist --plain --customizable --like none.ch line.gr line.p2p", DISTANCES),
+    ("dist --routes --customizable --like round.ch round.gr round.p2p", OVER_2),
+    ("dist --routes --like round.ch --fresh 0 round.gr round.p2p", OVER_4),
+    ("dist --customizable --hops 1 clique.gr clique.p2p", "d 3 18 1\n"),
     ("table line.gr from.ss to.ss", TABLE),
     ("table line.gr to.ss from.ss", "t 3 - 0\nt 2 - 5\n"),
     ("table --workers 2 line.gr --hops 1 from.ss to.ss --piece 1048576", TABLE),
@@ -119,6 +138,7 @@ READ = [
     ("table line.gr --saved line.ch from.ss --within 0 to.ss", WITHIN_0),
     ("table --like line.ch --within 8 line.gr from.ss to.ss", WITHIN_4),
     ("table line.gr --fresh 0 from.ss to.ss --like line.ch", TABLE),
+    ("table --customizable line.gr from.ss to.ss", TABLE),
     ("near line.gr from.ss to.ss", NEAR),
     ("near line.gr to.ss from.ss", "n 3 1 3 0\nn 2 1 3 5\n"),
     ("near line.gr from.ss --from to.ss", NEAR_FROM),
@@ -135,6 +155,7 @@ READ = [
     ("near --all line.gr -- from.ss", "n 1 2 1 0 3 9\nn 2 1 3 5\nn 3 1 3 0\n"),
     ("near --like order.ch line.gr from.ss to.ss --from", NEAR_FROM),
     ("near --all --like=line.ch line.gr to.ss --fresh 34", NEAR_ALL),
+    ("near --all line.gr --customizable --like=order.ch to.ss", NEAR_ALL),
     ("save line.gr", SAVED),
     ("save line.gr --deep", SAVED_BY_DEPTH),
     ("save --workers 64 line.gr --piece 1 --hops 16", SAVED),
@@ -146,6 +167,12 @@ READ = [
     ("save --like line.ch --fresh 33 line.gr", SAVED),
     ("save --fresh 100 line.gr --like line.ch", SAVED_BY_DEPTH),
     ("save --like that.ch --fresh 0 --hops 1 --workers 2 quick.gr", SAVED_IN_THAT_ORDER),
+    ("save --like line.ch --customizable line.gr", SAVED),
+    ("save line.gr --customizable --like order.ch", SAVED_BY_DEPTH),
+    ("save --customizable quick.gr --like that.ch --workers 2", SAVED_IN_THAT_ORDER),
+    ("save --customizable --like round.ch round.gr", SAVED_CUSTOMIZED),
+    ("ask --customizable line.gr < requests.txt", ASKED),
+    ("ask --routes --like round.ch round.gr --customizable < round.txt", OVER_2),
     ("ask --like order.ch line.gr < requests.txt", ASKED),
     ("ask --routes ties.gr --like first.ch < ties.txt", BY_DIFFERENCE),
     ("ask --routes ties.gr --fresh 100 --like first.ch < ties.txt", BY_DEPTH),
@@ -185,6 +212,11 @@ ELSEWHERE = [
     ("dist --routes --like crowded.ch crowded.gr hub.p2p", 1, "chtab: order refused: too many edges at node 1\n"),
     ("ask --routes --like crowded.ch crowded.gr", 1, "chtab: order refused: too many edges at node 1\n"),
     ("dist --like twice.ch line.gr line.gr", 1, "chtab: order refused: a node occurs twice\n"),
+    ("dist --customizable --like line.gr line.gr line.p2p", 1, "chtab: order line 1: bad problem line\n"),
+    ("save --customizable --like twice.ch line.gr", 1, "chtab: order refused: a node occurs twice\n"),
+    ("ask --customizable --like none.ch line.gr", 3, "chtab: cannot read order\n"),
+    ("near --all --customizable --like order.ch line.p2p to.ss", 1, "chtab: graph line 1: bad problem line\n"),
+    ("dist --customizable line.gr line.gr", 1, "chtab: queries line 1: bad problem line\n"),
     ("dist line.p2p none.p2p", 3, "chtab: cannot read queries\n"),
     ("table line.p2p from.ss none.ss", 3, "chtab: cannot read targets\n"),
 ]
@@ -214,6 +246,10 @@ OTHER_LISTS = "SOURCES and TARGETS are needed, or with --all TARGETS alone"
 WITH_SAVED = "error: the argument '--like' cannot be used with '--saved'\n"
 WITH_DEEP = "error: the argument '--like' cannot be used with '--deep'\n"
 WITH_QUICK = "error: the argument '--like' cannot be used with '--quick'\n"
+NOT_SAVED = "error: the argument '--customizable' cannot be used with '--saved'\n"
+NOT_FRESH = "error: the argument '--customizable' cannot be used with '--fresh'\n"
+NOT_DEEP = "error: the argument '--customizable' cannot be used with '--deep'\n"
+NOT_QUICK = "error: the argument '--customizable' cannot be used with '--quick'\n"
 FRESH_ALONE = "error: the argument '--fresh' cannot be used without '--like'\n"
 
 # What is told where both orders are given, the first of them first.
@@ -301,6 +337,20 @@ REFUSED = [
     ("save g --fresh 1", FRESH_ALONE),
     ("ask --like o --saved h g", WITH_SAVED),
     ("ask --like o --deep g", WITH_DEEP),
+    ("dist --customizable --saved h g q", NOT_SAVED),
+    ("dist --saved h g q --plain --customizable", NOT_SAVED),
+    ("dist --like o --saved h --customizable g q", WITH_SAVED),
+    ("dist --customizable --deep g q", NOT_DEEP),
+    ("dist --customizable --customizable g q", "cannot be used multiple times"),
+    ("dist --customizable=1 g q", "unexpected value '1'"),
+    ("table --customizable --fresh 5 g s t", FRESH_ALONE),
+    ("table --customizable --like o --fresh 5 g s t", NOT_FRESH),
+    ("near --all g t --saved h --customizable", NOT_SAVED),
+    ("save --deep --customizable g", NOT_DEEP),
+    ("save --quick g --customizable", NOT_QUICK),
+    ("save --quick g --customizable", "\n\nUsage: chtab save [OPTIONS] <GRAPH>\n"),
+    ("save --customizable --quick --deep g", QUICK_FIRST),
+    ("ask g --customizable --fresh 1 --like o", NOT_FRESH),
 ]
 
 # Words that ask for help, and parts of what it says beside its options, which come from the table.

@@ -93,9 +93,13 @@ def convert(
         with_bends = choices.bends or choices.turn_costs
         made, nodes = arcs.network_of(
             survey, survey.closed_nodes(), cuts, choices.metric == "metres", with_bends, progress)
+    # The network has what is asked of them from here on.
+    survey.roads.clear()
     if not made.tails:
         raise FileFault(f"{name_of(path)}: the map has no road for {profile.people}")
-    made = turned(made, restrictions.forbidden_turns(restricting, made, nodes, report), choices)
+    forbidden = restrictions.forbidden_turns(restricting, made, nodes, report)
+    nodes.clear()
+    made = turned(made, forbidden, choices)
     return (
         numbered(made, kept_of(made, choices.part, report), survey.streets, choices.driving_side),
         report)

@@ -23,9 +23,9 @@ if TYPE_CHECKING:
     from numpy.typing import NDArray
 
 # The form of these files, the bytes between which columns begin, and the most bytes of the line.
-FORM, STEP, LONGEST = "chtab columns 1", 4_096, 1 << 24
+FORM, STEP, LONGEST = "chtab columns 2", 4_096, 1 << 24
 # The types of columns.
-TYPES = "|b1", "|u1", "<i8", "<u8", "<f8"
+TYPES = "|b1", "|u1", "<i4", "<i8", "<u8", "<f8"
 # The bytes of a sum of a file or of the line.
 SIZE = 16
 

@@ -95,6 +95,8 @@ class Served:
             numbers = numbers_in(paths["nodes"], network.nodes) if "nodes" in paths else None
             made = stored.made(network, streets, numbers)
         self.network._layers.kept |= {"roads": made.roads, "coordinates": made.coordinates}
+        # Roads have the bends in their lines.
+        self.network._layers.kept.pop("bends", None)
         self.made, self.crossings, self.streets, self.numbers = (
             made, made.crossings, made.streets, made.numbers)
         # The handle of the library that the first process opens, and the forked ones take.

@@ -267,7 +267,8 @@ class Service:
         if question.service == "nearest" and question.own == 1:
             return Task(answers.nearest_ones, question, True, 1, is_quick)
         if question.service == "table":
-            return Task(answers.tables, question, False, 1, is_quick, question.own.size)
+            are_together = answers.is_small(question)
+            return Task(answers.tables, question, are_together, 1, is_quick, question.own.size)
         return alone(getattr(answers, question.service), question)
 
     def answers_for(self, profile: str, excluded: tuple[str, ...]) -> Answers:

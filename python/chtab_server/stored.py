@@ -24,7 +24,6 @@ if TYPE_CHECKING:
 
 Thing = TypeVar("Thing")
 SUFFIX = ".mapped"
-SEGMENTS = "arcs", "ends", "parts"
 
 
 class Made(NamedTuple):
@@ -44,6 +43,9 @@ def made(network: Network, streets: files.Streets | None, numbers: Integers | No
     """What is made of the files of a network."""
     roads, coordinates = network.roads, network.coordinates
     crossings = Crossings(roads, coordinates.copies(), streets)
+    # A column in place of a list of as many objects.
+    of_arcs: Any = crossings.street_of_arc
+    streets = streets and streets._replace(of_arcs=of_arcs)
     return Made(roads, coordinates, crossings, streets, numbers)
 
 
@@ -83,7 +85,6 @@ def write(path: str, sums: Mapping[str, str], kept: Made) -> None:
         columns[name] = numpy.asarray(column, numpy.float64)
     for name in "nodes", "weights", "is_last":
         columns[f"ways.{name}"] = getattr(roads.ways, name)
-    columns |= {f"segments.{name}": column for name, column in zip(SEGMENTS, roads.segments())}
     if streets is not None:
         text = json.dumps([list(street) for street in streets.streets])
         columns["streets"] = numpy.frombuffer(text.encode(), numpy.uint8)
@@ -114,6 +115,7 @@ def read(path: str, sums: Mapping[str, str]) -> Made:
     crossings.roads, crossings.side = roads, texts["side"]
     crossings.streets = [files.Street(), *(streets.streets if streets else ())]
     tiles = with_columns(Tiles, "tiles", columns)
+    tiles.lines = roads.lines
     return Made(roads, coordinates, crossings, streets, columns.get("numbers"), tiles)
 
 
@@ -129,6 +131,4 @@ def roads_in(
     roads.origin = Origin(digest, of_nodes)
     nodes, weights, is_last = (columns[f"ways.{name}"] for name in ("nodes", "weights", "is_last"))
     roads.ways, roads.is_last = BothWays(nodes, weights, texts["outs"], is_last), is_last.tolist()
-    arcs, ends, parts = (columns[f"segments.{name}"] for name in SEGMENTS)
-    roads.pieces = arcs, ends, parts
     return roads

@@ -43,6 +43,8 @@ def drawn_options(draw, service, count):
         found["radiuses"] = elements(draw, count, "", "unlimited", str(round(math.exp(draw.uniform(0, 9)), 1)))
     if draw.random() < 0.25:
         found["approaches"] = elements(draw, count, "", "curb", "unrestricted")
+    if draw.random() < 0.1:
+        found["hints"] = elements(draw, count, "", "x-_=")
     if service == "match" and draw.random() < 0.4:
         found["timestamps"] = ";".join(str(place * draw.choice((5, 5, 70))) for place in range(count))
     if draw.random() < 0.08:

@@ -22,7 +22,7 @@ PARTS = (
     (
         {
             "Gave", "GaveAll", "GaveUntilFault", "Took", "TookUntilFault", "DeviceFault", "lines", "heading_in", "items_in", "IsAccepted",
-            "IsWithinLimits", "SourceReading", "NoFile", "SavedFile", "OrderFile",
+            "IsWithinLimits", "SourceReading", "NoFile", "SavedFile", "OrderFile", "CustomizedFile", "FoundOrder",
         },
         "What a distance is, what files name, and what is written",
     ),

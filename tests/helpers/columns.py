@@ -1,23 +1,26 @@
-"""For the test of networks that are made of arrays: random graphs with right answers, columns of every form, and columns that are refused."""
-from typing import NamedTuple
+"""For the test of networks that are made of arrays: right distances, random graphs and labels, columns of every form, and columns that are refused."""
+from scipy.sparse import csgraph
+
+from helpers.science import numpy, pandas, scipy
 
 # The most nodes of a graph that is drawn.
 MOST = 30
 
 
-def least_of(tails, heads, weights, count):
-    """The distances between all nodes from 0 on by scipy, -1 where there is no walk. An arc of weight 0 is one of a millionth part there."""
-    import numpy
-    from scipy.sparse import csr_matrix
-    from scipy.sparse.csgraph import dijkstra
-
+def least_of(count, arcs, sources=None):
+    """The distances by scipy from all nodes from 0 on, or from some, -1 where there is no walk. An arc of weight 0 is one of a millionth part there."""
     least = {}
-    for tail, head, weight in zip(tails, heads, weights):
+    for tail, head, weight in arcs:
         least[tail, head] = min(weight, least.get((tail, head), weight))
     ends = tuple(zip(*least)) or ((), ())
-    matrix = csr_matrix(([weight + 1e-6 for weight in least.values()], ends), shape=(count, count))
-    found = dijkstra(matrix)
+    matrix = scipy.sparse.csr_matrix(([weight + 1e-6 for weight in least.values()], ends), shape=(count, count))
+    found = csgraph.dijkstra(matrix, indices=sources)
     return numpy.where(numpy.isinf(found), -1, numpy.floor(numpy.nan_to_num(found, posinf=0) + 1e-9)).astype(numpy.int64)
+
+
+def arcs_of(graph):
+    """The arcs of a graph of files, by nodes from 0 on."""
+    return [(tail - 1, head - 1, weight) for tail, head, weight in zip(*graph[1:4])]
 
 
 def drawn(draw):
@@ -30,8 +33,6 @@ def drawn(draw):
 
 def labels_drawn(draw, count):
     """Different labels of one kind: numbers of 64 bits or more, or strings that look like numbers, or end in NUL or a line feed."""
-    import numpy
-
     kinds = (
         lambda: draw.choice(10**15, count, replace=False) - 10**14,
         lambda: numpy.array([2**64 + 3 * number for number in draw.permutation(count).tolist()], object),
@@ -43,8 +44,6 @@ def labels_drawn(draw, count):
 
 def forms_of(draw, column):
     """A column in one of the forms that callers have."""
-    import pandas
-
     forms = [lambda: column, lambda: column.tolist(), lambda: pandas.Series(column, index=range(5, 5 + len(column))), lambda: column.repeat(2)[::2]]
     if column.dtype.kind == "i":
         forms += [lambda: pandas.array(column, "Int64"), lambda: column.astype(">i8")]
@@ -53,9 +52,6 @@ def forms_of(draw, column):
 
 def refusals():
     """Columns that are refused: (sources, targets, weights, more), the column and the row that are named, and what is told."""
-    import numpy
-    import pandas
-
     ends, weights, three = ([1, 2], [2, 3]), [1, 1], {"nodes": [1, 2, 3]}
     nan = float("nan")
     for sources, row, told in (
@@ -99,25 +95,3 @@ def refusals():
         ({"scale": 10**30}, "weights", 0, "too large"), ({"scale": 2**60 / 2.5}, "weights", 0, "too large"),
     ):
         yield (*ends, weights, more), column, row, told
-
-
-class RandomGraph(NamedTuple):
-    """A small graph: the seed and the source of its randomness, its arcs by nodes from 0 on, and labels and distances of its nodes."""
-
-    seed: int
-    draw: object
-    tails: object
-    heads: object
-    weights: object
-    labels: object
-    least: object
-
-
-def random_graphs(count):
-    """So many graphs, each drawn from its own seed, with labels of one kind and all distances by scipy."""
-    import numpy
-
-    for seed in range(count):
-        draw = numpy.random.default_rng(seed)
-        nodes, tails, heads, weights = drawn(draw)
-        yield RandomGraph(seed, draw, tails, heads, weights, labels_drawn(draw, nodes), least_of(tails, heads, weights, nodes))

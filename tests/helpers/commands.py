@@ -18,12 +18,16 @@ def raises(kind, call, *words, told=""):
     raise AssertionError(f"{call} raised nothing")
 
 
-def command(name, *words, text="", status=0):
-    """What a command of tools/ writes to standard output, or with another status to standard error."""
-    words = [PYTHON, ROOT / "tools" / f"{name}.py", *words]
-    done = subprocess.run(list(map(str, words)), input=text, capture_output=True, text=True)
-    assert done.returncode == status and bool(done.stderr) == bool(status), done
+def run(*words, text="", status=0, **more):
+    """What a command writes to standard output, or with another status than 0 to standard error."""
+    done = subprocess.run(list(map(str, words)), input=text, capture_output=True, text=True, **more)
+    assert done.returncode == status and bool(done.stderr) == bool(status), (words, done)
     return done.stderr if status else done.stdout
+
+
+def command(name, *words, **more):
+    """The same of a command of tools/."""
+    return run(PYTHON, ROOT / "tools" / f"{name}.py", *words, **more)
 
 
 @contextlib.contextmanager

@@ -189,6 +189,13 @@ class Library:
         rooms = [(len(sources) if length is None else length, ctypes.c_uint64) for length in (weights_room, sums_room)]
         return self.many(self.calls.chtab_route_sums, handle, lists, rooms)
 
+    def table_sums(self, handle, sources, targets, values, weights_room=None, sums_room=None):
+        """The status, the number of cells, and the weights and sums of all cells, row after row."""
+        lists = [(sources, ctypes.c_uint32), (targets, ctypes.c_uint32), (values, ctypes.c_uint64)]
+        cells = len(sources) * len(targets)
+        rooms = [(cells if length is None else length, ctypes.c_uint64) for length in (weights_room, sums_room)]
+        return self.many(self.calls.chtab_table_sums, handle, lists, rooms)
+
     def flows(self, handle, sources, targets, demands, room):
         """The status, the number of pairs without a walk, and the flows."""
         lists = [(sources, ctypes.c_uint32), (targets, ctypes.c_uint32), (demands, ctypes.c_uint64)]

@@ -7,6 +7,7 @@ import pytest
 
 from helpers import maps
 from helpers.running import PROGRAM
+from helpers.science import numpy
 from oracles import dijkstra
 import chtab
 from chtab import files
@@ -37,30 +38,31 @@ def of_roads(**more):
     return chtab.Network.from_arrays(*ARCS, **{"unit": "minutes", "program": PROGRAM, **PLACES, **more})
 
 
-def least_of(count, arcs):
-    """All distances by scipy, -1 where no path leads, of arcs whose weights are above 0."""
-    import numpy
-    from scipy.sparse import csr_matrix
-    from scipy.sparse.csgraph import dijkstra
+def by_nodes(count):
+    """What arcs on a line of so many nodes, 0.01 degrees apart, take beside their columns."""
+    return {"nodes": range(count), "x": 9.5 + 0.01 * numpy.arange(count), "y": [47.1] * count, "program": PROGRAM}
 
-    least = {}
-    for tail, head, weight in arcs:
-        least[tail, head] = min(weight, least.get((tail, head), weight))
-    found = dijkstra(csr_matrix((list(least.values()), tuple(zip(*least)) or ((), ())), (count, count)))
-    return numpy.where(numpy.isinf(found), -1, found).astype(numpy.int64)
+
+def grid_map(size, turns, name, *words):
+    """The files of a square grid of so many roads, where turns (way in, node, way out, word) are forbidden; the numbers of its nodes by those of the map,
+    and the ends of its ways."""
+    nodes = {1 + size * y + x: (x, y) for y in range(size) for x in range(size)}
+    ends = [(1 + size * y + x, 2 + size * y + x) for y in range(size) for x in range(size - 1)]
+    ends += [(1 + size * y + x, 1 + size + size * y + x) for y in range(size - 1) for x in range(size)]
+    number = {pair: place for place, pair in enumerate(ends, 1)}
+    relations = [
+        ([("way", number[one], "from"), ("node", via, "via"), ("way", number[other], "to")], {"type": "restriction", "restriction": word})
+        for one, via, other, word in turns
+    ]
+    pathlib.Path(f"{name}.osm").write_text(maps.osm(nodes, [([*pair], maps.ROAD) for pair in ends], relations))
+    maps.tool("osm_to_gr", "--quiet", "--turns", "--bends", *words, f"{name}.osm", name)
+    return [int(name) for name in files.read_names(f"{name}.nodes").values()], number
 
 
 def with_turns():
     """The files of a grid of roads where turns are restricted: of some roads one turn, and of one road all of them. The numbers of the map's nodes."""
-    nodes = {1 + 3 * y + x: (x, y) for y in range(3) for x in range(3)}
-    ends = [(1 + 3 * y + x, 2 + 3 * y + x) for y in range(3) for x in range(2)] + [(1 + 3 * y + x, 4 + 3 * y + x) for y in range(2) for x in range(3)]
-    turns = [
-        ([("way", 1 + ends.index(one), "from"), ("node", via, "via"), ("way", 1 + ends.index(other), "to")], {"type": "restriction", "restriction": word})
-        for one, via, other, word in (((4, 5), 5, (5, 8), "no_left_turn"), ((2, 5), 5, (5, 6), "only_right_turn"), ((8, 9), 9, (6, 9), "no_right_turn"), ((8, 9), 9, (8, 9), "no_u_turn"))
-    ]
-    pathlib.Path("turns.osm").write_text(maps.osm(nodes, [([*pair], maps.ROAD) for pair in ends], turns))
-    maps.tool("osm_to_gr", "--quiet", "--turns", "--bends", "turns.osm", "turns")
-    return [int(name) for name in files.read_names("turns.nodes").values()]
+    turns = ((4, 5), 5, (5, 8), "no_left_turn"), ((2, 5), 5, (5, 6), "only_right_turn"), ((8, 9), 9, (6, 9), "no_right_turn"), ((8, 9), 9, (8, 9), "no_u_turn")
+    return grid_map(3, turns, "turns")[0]
 
 
 def trips_of(arcs, names, nodes):
@@ -69,3 +71,9 @@ def trips_of(arcs, names, nodes):
     begins = [names.index(node) + 1 for node in nodes]
     rows = [dijkstra.distances_from(begin, ahead) for begin in begins]
     return [[row.get(ends.get(target, target), -1) for target in begins] for row in rows]
+
+
+def after(network, pairs, **change):
+    """The distances of pairs in a network that is made of another one, -1 where no path leads."""
+    with network.changed(**change) as other:
+        return other.distances(pairs, missing=-1).tolist()

@@ -5,7 +5,7 @@ Nodes are numbered from 1. An arc is (from, to, weight); a leg is (from, to, wei
 from itertools import product
 
 from oracles.checking import LIMIT, levels_of, plus
-from oracles.contracting import text_of
+from oracles.contracting import contract_in_order, text_of
 
 
 class Contraction:
@@ -141,6 +141,11 @@ def text_quick(nodes, arcs, hops, order):
             bound = hops
         legs += contract_one(left, node, bound)[0]
     return text_of(nodes, order, in_order(order, legs))
+
+
+def text_customized(nodes, arcs, order):
+    """The saved hierarchy of a graph that is customized in this order."""
+    return text_of(nodes, order, in_order(order, contract_in_order(nodes, arcs, order)))
 
 
 def in_order(order, legs):

@@ -8,7 +8,6 @@ import shutil
 import signal
 import subprocess
 import time
-import warnings
 
 import pytest
 
@@ -115,6 +114,7 @@ def test_lengths_are_compared():
         for starts, ends in (spots[:1], spots), (spots, spots[:1]), (spots[:0], spots[:1]):
             for call in network.trips, network.trip_routes:
                 raises(ValueError, call, starts, ends, told="`trip_table` has all pairs")
+        assert network.trips(spots[:0], spots[:0]).shape == (0,) and len(network.trip_routes(spots[:0], spots[:0])) == 0
         for call in network.distances, network.routes, lambda *ends: network.along([1] * len(network.graph.tails), *ends):
             raises(ValueError, call, [1], [2, 3], told="`table` has all pairs")
             raises(ValueError, call, [1, 2], [3], told="2 sources and 1 targets")

@@ -1,36 +1,38 @@
 """Tests roads that are closed at places, at crossings, and by the numbers of their ways in OpenStreetMap, against other searches on what is left."""
 import os
-import pathlib
 
 import pytest
 
-from helpers import columns, maps
+from helpers.columns import least_of
 from helpers.commands import raises
 from helpers.marks import needs
 from helpers.running import PROGRAM
-from helpers.scenarios import each_way, trips_of, with_turns  # noqa: F401
+from helpers.scenarios import after, by_nodes, each_way, grid_map, trips_of, with_turns  # noqa: F401
+from helpers.science import networkx, numpy
 from oracles import dijkstra
 import chtab
-from chtab import files
 from chtab_server.osrm.nearby import find_facing
 
-pytestmark = [needs("python3-numpy"), pytest.mark.usefixtures("program", "each_way")]
+pytestmark = pytest.mark.usefixtures("program", "each_way")
 
 
-def ladder(draw):
-    """Six nodes in a line, and between each two of them a straight road, one over the north and one over the south: ends, weights and lines."""
-    ends, lines = [], []
+def ladder(seed):
+    """Six nodes in a line, and between each two of them a straight road, one over the north and one over the south: arcs and lines."""
+    draw, arcs, lines = numpy.random.default_rng(seed), [], []
     for place in range(5):
         start, end = (round(9.5 + 0.01 * place, 6), 47.1), (round(9.51 + 0.01 * place, 6), 47.1)
         for bend in None, 47.104, 47.096:
-            ends.append((place, place + 1))
+            arcs.append((place, place + 1, int(draw.integers(1, 60))))
             lines.append([start, *[(round(start[0] + 0.005, 6), bend)] * (bend is not None), end])
-    return ends, draw.integers(1, 60, len(ends)).tolist(), lines
+    return draw, arcs, lines
 
 
-def least_of(arcs):
-    """All distances between the six nodes by scipy, -1 where no path leads."""
-    return columns.least_of(*(zip(*arcs) if arcs else ((), (), ())), 6)
+def of_ladder(arcs, lines, **more):
+    return chtab.Network.from_arrays(*zip(*arcs), geometry=lines, **by_nodes(6), **more)
+
+
+def in_both(arcs):
+    return [arc for tail, head, weight in arcs for arc in ((tail, head, weight), (head, tail, weight))]
 
 
 def on_line(line):
@@ -39,92 +41,61 @@ def on_line(line):
     return x + (u - x) / 3, y + (v - y) / 3
 
 
-@needs("python3-scipy", "python3-shapely")
-def test_roads_are_closed_at_places():
+@pytest.mark.parametrize("seed", range(6))
+def test_roads_are_closed_at_places(seed):
     """Just the road at a place is closed, in both directions, and none that is parallel to it; against scipy on the roads that are left."""
-    import numpy
-
-    for seed in range(6):
-        draw, is_both = numpy.random.default_rng(seed), bool(seed % 2)
-        ends, weights, lines = ladder(draw)
-        names = [f"node {place}" for place in range(6)]
-        roads = [names[tail] for tail, _ in ends], [names[head] for _, head in ends], weights
-        places = {"nodes": names, "x": 9.5 + 0.01 * numpy.arange(6), "y": [47.1] * 6}
-        with chtab.Network.from_arrays(*roads, geometry=lines, both_ways=is_both, program=PROGRAM, **places) as network:
-            before = network.table(names, names)
-            rows = draw.choice(len(ends), 4, replace=False).tolist()
-            spots = network.snap(*zip(*(on_line(lines[row]) for row in rows)))
-            left = [(*ends[row], weights[row]) for row in range(len(ends)) if row not in rows]
-            wanted = least_of([*left, *[(head, tail, weight) for tail, head, weight in left] * is_both])
-            for closed in spots, [spots[0], *rows[1:3], spots[3:]], [spots]:
-                with network.changed(closed=closed) as other:
-                    assert numpy.array_equal(other.table(names, names), wanted), (seed, rows)
-                    assert other.labels.tolist() == names and other.coordinates == network.coordinates
-                    pairs = [(names[place], names[place + 1]) for place in range(5)]
-                    for found, own in zip(other.routes(pairs).to_geojson()["features"], other.routes(pairs).rows()):
-                        assert own is None or own[0] not in rows and found["geometry"]["coordinates"] == lines[own[0]], (seed, rows, found)
-            assert numpy.array_equal(network.table(names, names), before)
+    (draw, arcs, lines), is_both = ladder(seed), bool(seed % 2)
+    nodes = range(6)
+    with of_ladder(arcs, lines, both_ways=is_both) as network:
+        before, rows = network.table(nodes, nodes), draw.choice(len(arcs), 4, replace=False).tolist()
+        spots = network.snap(*zip(*(on_line(lines[row]) for row in rows)))
+        left = [arc for row, arc in enumerate(arcs) if row not in rows]
+        for closed in spots, [spots[0], *rows[1:3], spots[3:]], [spots]:
+            with network.changed(closed=closed) as other:
+                assert numpy.array_equal(other.table(nodes, nodes), least_of(6, in_both(left) if is_both else left)), rows
+                assert other.labels.tolist() == [*nodes] and other.coordinates == network.coordinates
+                routes = other.routes([(place, place + 1) for place in range(5)])
+                for found, own in zip(routes.to_geojson()["features"], routes.rows()):
+                    assert own is None or own[0] not in rows and found["geometry"]["coordinates"] == lines[own[0]], (rows, found)
+        assert numpy.array_equal(network.table(nodes, nodes), before)
 
 
-@needs("python3-scipy", "python3-shapely")
 def test_a_crossing_is_closed():
     """A place less than a metre from a crossing closes all of its roads, and so does the node; a spot that one leaves in one direction closes that."""
-    import numpy
-
-    ends, weights, lines = ladder(numpy.random.default_rng(3))
-    weights[0] = 1
-    places = {"nodes": range(6), "x": 9.5 + 0.01 * numpy.arange(6), "y": [47.1] * 6}
-    with chtab.Network.from_arrays(*zip(*ends), weights, geometry=lines, both_ways=True, program=PROGRAM, **places) as network:
-        def both(arcs):
-            return least_of([arc for tail, head, weight in arcs for arc in ((tail, head, weight), (head, tail, weight))])
-
-        arcs = [(*pair, weight) for pair, weight in zip(ends, weights)]
+    _, arcs, lines = ladder(3)
+    arcs[0] = (0, 1, 1)
+    with of_ladder(arcs, lines, both_ways=True) as network:
         for closed in network.snap(9.520005, 47.1), [(2,)]:
             with network.changed(closed=closed) as other:
-                assert numpy.array_equal(other.table(range(6), range(6)), both([arc for arc in arcs if 2 not in arc[:2]]))
-        x, y = on_line(lines[0])
-        with network.changed(closed=find_facing(network.roads, x, y, 90, 30)) as other:
-            apart = other.distances([(0, 1), (1, 0)]).tolist()
-            assert apart == [min(weights[1:3]), 1], (apart, weights)
+                assert numpy.array_equal(other.table(range(6), range(6)), least_of(6, in_both([arc for arc in arcs if 2 not in arc[:2]])))
+        facing = find_facing(network.roads, *on_line(lines[0]), 90, 30)
+        assert after(network, [(0, 1), (1, 0)], closed=facing) == [min(weight for _, _, weight in arcs[1:3]), 1]
 
 
-@needs("python3-scipy", "python3-shapely")
 def test_spots_of_another_scenario_close_their_own_roads():
     """Roads have other numbers after a change: a spot closes the road on which it lies, and is refused where that is closed already."""
-    import numpy
-
-    ends, weights, lines = ladder(numpy.random.default_rng(5))
-    places = {"nodes": range(6), "x": 9.5 + 0.01 * numpy.arange(6), "y": [47.1] * 6}
-    with chtab.Network.from_arrays(*zip(*ends), weights, geometry=lines, program=PROGRAM, **places) as network, network.changed(closed=[0]) as other:
+    _, arcs, lines = ladder(5)
+    with of_ladder(arcs, lines) as network, network.changed(closed=[0]) as other:
         spots = network.snap(*zip(*(on_line(lines[each]) for each in (6, 14, 0))))
         with other.changed(closed=spots[:2]) as again, other.changed(closed=[6, 14]) as owed:
             assert numpy.array_equal(again.table(range(6), range(6)), owed.table(range(6), range(6)))
         for kept in spots[2], spots:
             fault = raises(chtab.DataFault, other.changed, None, [5, kept], told="lies on no road of this network")
             assert fault.row == 1 and "closed[1]" in str(fault)
-        with network.changed(closed=network.snap(*on_line(lines[6]))) as again:
-            assert again.distances([(2, 3)])[0] == min(weights[7:9])
-    with chtab.Network.from_arrays([0], [1], [5], nodes=[0, 1], x=[9.5, 9.51], y=[47.1, 47.1], program=PROGRAM) as network:
-        assert [len(spots) for spots in network.snap([9.5, 9.51], [47.1, 47.1])] == [1, 1]
+        assert after(network, [(2, 3)], closed=network.snap(*on_line(lines[6]))) == [min(weight for _, _, weight in arcs[7:9])]
+    with chtab.Network.from_arrays([0], [1], [5], **by_nodes(2)) as network:
+        assert [len(spots) for spots in network.snap([9.5, 9.51], [47.1, 47.1])] == [1, 1] and len(network.snap([9.5, 9.51], [47.1, 47.1])[-1]) == 1
         raises(IndexError, lambda: network.snap(9.5, 47.1)[1])
-        assert len(network.snap([9.5, 9.51], [47.1, 47.1])[-1]) == 1
 
 
-@needs("python3-scipy", "python3-shapely")
 def test_ways_of_maps_are_closed():
     """All arcs of a way are closed, of whichever copies of its crossings, and so are those of a road at a place or between two nodes; against Dijkstra's
     algorithm on the arcs that are left. What was changed keeps the numbers of ways."""
-    nodes = {1 + 4 * y + x: (x, y) for y in range(4) for x in range(4)}
-    ways = [([1 + 4 * y + x, 2 + 4 * y + x], maps.ROAD) for y in range(4) for x in range(3)] + [([1 + 4 * y + x, 5 + 4 * y + x], maps.ROAD) for y in range(3) for x in range(4)]
-    number = {tuple(refs): place for place, (refs, _) in enumerate(ways, 1)}
-    turns = [
-        ([("way", number[one], "from"), ("node", via, "via"), ("way", number[other], "to")], {"type": "restriction", "restriction": word})
-        for one, via, other, word in (((1, 2), 2, (2, 6), "no_left_turn"), ((2, 6), 6, (6, 7), "no_right_turn"), ((10, 11), 11, (7, 11), "only_right_turn"))
-    ]
-    pathlib.Path("grid.osm").write_text(maps.osm(nodes, ways, turns))
-    maps.tool("osm_to_gr", "--quiet", "--turns", "--bends", "grid.osm", "grid")
+    turns = ((1, 2), 2, (2, 6), "no_left_turn"), ((2, 6), 6, (6, 7), "no_right_turn"), ((10, 11), 11, (7, 11), "only_right_turn")
+    names, number = grid_map(4, turns, "grid")
+    node, at = {name: place for place, name in reversed([*enumerate(names, 1)])}, {name: ((name - 1) % 4, (name - 1) // 4) for name in names}
     with chtab.Network.open("grid.gr", program=PROGRAM) as network:
-        graph, names = network.graph, [int(name) for name in files.read_names("grid.nodes").values()]
+        graph, every = network.graph, range(1, network.graph.nodes + 1)
         arcs, stops = list(zip(*(column.tolist() for column in graph[1:4]))), network.coordinates.ends()
         assert len(names) > 16 and 0 in graph.weights and stops
 
@@ -133,15 +104,13 @@ def test_ways_of_maps_are_closed():
 
         def without(is_closed):
             ahead = dijkstra.arcs_ahead([arc for arc in arcs if not is_closed(*ends(arc))])
-            rows = [dijkstra.distances_from(source, ahead) for source in range(1, graph.nodes + 1)]
-            return [[row.get(stops.get(target, target), -1) for target in range(1, graph.nodes + 1)] for row in rows]
+            rows = [dijkstra.distances_from(source, ahead) for source in every]
+            return [[row.get(stops.get(target, target), -1) for target in every] for row in rows]
 
-        every = range(1, graph.nodes + 1)
         before = network.table(every, every).tolist()
         assert before == without(lambda tail, head: False)
         for pair in number:
-            node = {name: place for place, name in reversed([*enumerate(names, 1)])}
-            (x, y), (u, v) = nodes[pair[0]], nodes[pair[1]]
+            (x, y), (u, v) = at[pair[0]], at[pair[1]]
             spots = network.snap((x + 0.4 * (u - x)) / 1_000, (y + 0.4 * (v - y)) / 1_000)
             for closed, is_closed in (
                 ([f"way/{number[pair]}"], lambda *ends: sorted(ends) == [*pair]), (spots, lambda *ends: sorted(ends) == [*pair]),
@@ -165,19 +134,16 @@ def test_ways_of_maps_are_closed():
         raises(chtab.DataFault, network.changed, None, [0, "way/3"], told="closed[1]: nothing says which arcs are parts of way 3 of OpenStreetMap: `osm_to_gr.py`")
 
 
-@needs("python3-scipy", "python3-shapely")
 def test_roads_are_added_where_turns_are_restricted():
     """Whoever arrives at a crossing may go on by a new road, also where no other turn is open, and trips arrive by it; so in scenarios of scenarios."""
     names = with_turns()
     nodes = sorted(set(names))
+    begin = {node: names.index(node) + 1 for node in nodes}
     with chtab.Network.open("turns.gr", program=PROGRAM) as network:
-        arcs = list(zip(*(column.tolist() for column in network.graph[1:4])))
-        coordinates = network.coordinates
-        ends = coordinates.ends()
+        arcs, coordinates = list(zip(*(column.tolist() for column in network.graph[1:4]))), network.coordinates
+        ends, places = coordinates.ends(), list(zip(*(coordinates.of(begin[node]) for node in nodes)))
         # By one road all that arrive at node 9 have to stay there.
         assert {names[end - 1] for end in ends.values()} == {5, 9} and len(names) > 12
-        begin = {node: names.index(node) + 1 for node in nodes}
-        places = list(zip(*(coordinates.of(begin[node]) for node in nodes)))
 
         def trips(network):
             spots = network.snap(*places)
@@ -186,43 +152,37 @@ def test_roads_are_added_where_turns_are_restricted():
         assert trips(network) == trips_of(arcs, names, nodes)
         for tail, head in (9, 1), (5, 7), (5, 5), (3, 9), (9, 5):
             copies = [number for number, name in enumerate(names, 1) if name == tail]
-            more = [(copy, begin[head], 5) for copy in copies]
-            wanted = trips_of([*arcs, *more], names, nodes)
+            wanted = trips_of([*arcs, *((copy, begin[head], 5) for copy in copies)], names, nodes)
+            left = [arc for arc in arcs if (names[arc[0] - 1], names[arc[1] - 1]) != (tail, head) or tail == head]
             for source in {begin[tail], copies[-1]}:
-                with network.changed(added=[(source, begin[head], 5)]) as other, other.changed(closed=[(begin[tail], begin[head])] if tail != head else [len(arcs)]) as again:
-                    assert trips(other) == wanted, (tail, head)
-                    left = [arc for arc in arcs if (names[arc[0] - 1], names[arc[1] - 1]) != (tail, head) or tail == head]
-                    assert trips(again) == trips_of(left, names, nodes), (tail, head)
+                closed = [(begin[tail], begin[head])] if tail != head else [len(arcs)]
+                with network.changed(added=[(source, begin[head], 5)]) as other, other.changed(closed=closed) as again:
+                    assert trips(other) == wanted and trips(again) == trips_of(left, names, nodes), (tail, head)
                     # Where trips to the head end elsewhere, the last arc leads there.
                     rows = other.routes([(begin[tail], begin[head])]).rows()[0].tolist()
                     assert rows[:1] == [len(arcs)] and len(rows) == 1 + (begin[head] in ends) or tail == head, rows
-            with network.changed(closed=[(begin[tail],)], added=[(begin[head], begin[tail], 5)]) as other:
-                assert head == tail or other.distances([(begin[head], ends.get(begin[tail], begin[tail]))]).tolist() == [5]
+            pair = begin[head], ends.get(begin[tail], begin[tail])
+            assert head == tail or after(network, [pair], closed=[(begin[tail],)], added=[(begin[head], begin[tail], 5)]) == [5]
 
 
-@needs("python3-scipy", "python3-networkx", "python3-shapely")
 def test_ways_of_osmnx_are_closed():
     """Edges of a graph have the numbers of their ways, one or several each; those that lack one have none."""
-    import networkx
-
     graph = networkx.MultiDiGraph()
     for tail, head, length, osmid in ((1, 2, 5, 70), (1, 2, 7, [70, 71]), (1, 2, 11, 72), (2, 3, 1, [72, 71]), (3, 1, 2, 73)):
         graph.add_edge(tail, head, length=length, osmid=osmid)
-    wanted = {70: [11, 1], 71: [5, -1], 72: [5, -1], 73: [5, 1]}
     with chtab.Network.from_networkx(graph, "length", unit="metres", folder="own", program=PROGRAM) as network:
-        for way, apart in wanted.items():
-            with network.changed(closed=[f"way/{way}"]) as other:
-                assert other.distances([(1, 2), (2, 3)], missing=-1).tolist() == apart, way
+        for way, apart in {70: [11, 1], 71: [5, -1], 72: [5, -1], 73: [5, 1]}.items():
+            assert after(network, [(1, 2), (2, 3)], closed=[f"way/{way}"]) == apart, way
         raises(chtab.DataFault, network.changed, None, ["way/7"], told="no arc is a part of way 7")
-    with chtab.Network.open("own", program=PROGRAM) as network, network.changed({"way/73": 4}, ["way/70"], [(2, 1, 3)]) as other, other.changed(closed=["way/71"]) as again:
+    with chtab.Network.open("own", program=PROGRAM) as network, network.changed({"way/73": 4}, ["way/70"], [(2, 1, 3)]) as other:
         assert other.distances([(1, 2), (2, 3), (3, 1), (2, 1)]).tolist() == [11, 1, 4, 3]
-        assert again.distances([(1, 2), (2, 3), (2, 1)], missing=-1).tolist() == [11, -1, 3]
+        assert after(other, [(1, 2), (2, 3), (2, 1)], closed=["way/71"]) == [11, -1, 3]
     graph.add_edge(3, 2, length=1)
     with chtab.Network.from_networkx(graph, "length", unit="metres", program=PROGRAM) as network:
         raises(chtab.DataFault, network.changed, None, ["way/70"], told="nothing says which arcs are parts of way 70")
 
 
-@needs("python3-scipy", "python3-geopandas")
+@needs("python3-geopandas")
 def test_ways_of_geodataframes_are_closed():
     """A column `osmid` of a GeoDataFrame has the numbers of ways, with both directions of a row."""
     import geopandas
@@ -232,5 +192,4 @@ def test_ways_of_geodataframes_are_closed():
     edges = geopandas.GeoDataFrame({"minutes": [4.0, 9.0], "osmid": [11, [12, 13]]}, geometry=lines, crs="EPSG:4326")
     with chtab.Network.from_geodataframe(edges, weight="minutes", unit="minutes", both_ways=True, program=PROGRAM) as network:
         for way, apart in (11, [9, 9]), (12, [4, 4]), (13, [4, 4]):
-            with network.changed(closed=[f"way/{way}"]) as other:
-                assert other.distances([(1, 2), (2, 1)]).tolist() == apart, way
+            assert after(network, [(1, 2), (2, 1)], closed=[f"way/{way}"]) == apart, way

@@ -6,10 +6,11 @@ import pickle
 
 import pytest
 
+from helpers.columns import least_of
 from helpers.commands import raises, temporary
 from helpers.marks import needs
 from helpers.running import PROGRAM, ROOT
-from helpers.scenarios import least_of, of_roads
+from helpers.scenarios import of_roads
 from helpers.waiting import PATIENCE
 import chtab
 from chtab._engine import library as calls

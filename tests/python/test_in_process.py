@@ -11,14 +11,16 @@ import pytest
 
 from helpers import ways
 from helpers.commands import raises
+from helpers.forking import forked
 from helpers.handles import FIRST, FIRST_SAVED, GRAPH, handle_of, of_first, route
 from helpers.in_process import HEADER, declared, make, statuses
-from helpers.marks import needs
 from helpers.running import PROGRAM
+from helpers.science import numpy
 import chtab
 from chtab import files
+from chtab._engine import in_process, library
 
-pytestmark = [needs("python3-numpy"), pytest.mark.usefixtures("program")]
+pytestmark = pytest.mark.usefixtures("program")
 
 
 # What Python says of C.
@@ -26,8 +28,6 @@ pytestmark = [needs("python3-numpy"), pytest.mark.usefixtures("program")]
 
 def test_numbers_are_those_of_the_header():
     """The version, statuses, kinds of faults and sizes."""
-    from chtab._engine import library
-
     text = HEADER.read_text()
     assert f"#define CHTAB_VERSION {library.VERSION}\n" in text
     assert all(getattr(library, name) == number for name, number in statuses().items()) and len(statuses()) == 16
@@ -41,8 +41,6 @@ def test_numbers_are_those_of_the_header():
 
 def test_calls_are_those_of_the_header():
     """Each call is given as many words as the header says, each of its type."""
-    from chtab._engine import library
-
     one, rows, column = ctypes.POINTER(ctypes.c_uint32), ctypes.POINTER(ctypes.c_uint64), ctypes.c_void_p
     types = {
         "chtab *": {library.HANDLE}, "chtab_topology *": {library.TOPOLOGY}, "const uint8_t *": {ctypes.c_char_p}, "size_t ": {ctypes.c_size_t}, "uint64_t ": {ctypes.c_uint64},
@@ -63,13 +61,8 @@ def test_calls_are_those_of_the_header():
 
 def test_what_c_would_misread_is_refused():
     """Arrays of other numbers, of other shapes, in pieces, of different lengths, and what is no array: none of them comes to C."""
-    import numpy
-
-    from chtab._engine import library
-
-    handle = handle_of()
-    right = numpy.array([0, 1], numpy.uint32)
-    assert handle.distances(right, right[::-1].copy()).tolist() == [4, -1] and handle.table(right, right).tolist() == [[0, 4], [-1, 0]]
+    handle, right, values = handle_of(), columns_of([0, 1])[0], numpy.array([2**63, 2**63 - 1], numpy.uint64)
+    sources, targets, last = columns_of([0, 2, 1], [2, 0, 2], [2, 2])
     for wrong in (
         None, [0, 1], (0, 1), "01", b"\0" * 8, right.astype(numpy.int32), right.astype(numpy.int64), right.astype(float), right.astype(">u4"),
         numpy.arange(4, dtype=numpy.uint32)[::2], right[::-1], right.reshape(1, 2), right.reshape(2, 1), numpy.ma.masked_array(right),
@@ -80,59 +73,56 @@ def test_what_c_would_misread_is_refused():
             raises(TypeError, call, right, wrong)
         raises(TypeError, handle.keep_places, wrong)
         raises(TypeError, handle.near_rows, wrong, 9)
-    raises(ValueError, handle.distances, right, right[:1], told="lengths")
-    for node in 3, 4, 2**31, 2**32 - 1:
-        outside = numpy.array([0, node], numpy.uint32)
-        for call in handle.distances, handle.table:
-            raises(ValueError, call, outside, right, told="not one of the network")
-            raises(ValueError, call, right, outside, told="not one of the network")
-        raises(ValueError, route, handle, node, 0)
-        raises(ValueError, route, handle, 0, node)
-        raises(ValueError, handle.keep_places, outside, told="not one of the network")
-    for limit in -1, 2**64:
-        raises(ValueError, handle.table, right, right, limit, told="64 bits")
-        raises(ValueError, handle.keep_places, right, limit, told="64 bits")
-    for count in -1, 2**32:
-        raises(ValueError, handle.keep_places, right, 5, count, told="one of 32")
-    for call, words in (handle.sweep, ()), (handle.near_rows, (right, 9)):
-        raises(ValueError, call, *words, told="no places are kept")
-    values = numpy.array([2**63, 2**63 - 1], numpy.uint64)
-    weights, sums = handle.route_sums(numpy.array([0, 2, 1], numpy.uint32), numpy.array([2, 0, 2], numpy.uint32), values)
-    assert (weights.tolist(), sums.tolist()) == ([9, -1, 5], [2**64 - 1, 0, 2**63 - 1])
     for wrong in None, [1, 2], values.astype(numpy.int64), values.astype(float), values.astype(numpy.uint32), values[::-1], values.reshape(1, 2):
         raises(TypeError, handle.route_sums, right, right, wrong)
-    for words in (right, right[:1], values), (right, right, values[:1]), (right, right, numpy.zeros(3, numpy.uint64)):
-        raises(ValueError, handle.route_sums, *words, told="lengths")
-    raises(ValueError, handle.route_sums, outside, right, values, told="not one of the network")
-    raises(ValueError, handle.route_sums, right[:1], numpy.array([2], numpy.uint32), values | 1, told="2^64 or more")
-    missed, flows = handle.flows(numpy.array([0, 2, 1], numpy.uint32), numpy.array([2, 0, 2], numpy.uint32), numpy.array([2, 3, 5], numpy.uint64), 2)
-    assert (missed, flows.tolist(), flows.dtype) == (1, [2, 7], numpy.uint64)
-    for wrong in None, [1, 2], values.astype(numpy.int64), values.astype(float), values.astype(numpy.uint32), values[::-1], values.reshape(1, 2):
         raises(TypeError, handle.flows, right, right, wrong, 2)
-    for words in (right, right[:1], values, 2), (right, right, values[:1], 2), (right, right, values, 1), (right, right, values, 3):
-        raises(ValueError, handle.flows, *words, told="lengths")
-    raises(ValueError, handle.flows, outside, right, values, 2, told="not one of the network")
-    raises(ValueError, handle.flows, right, numpy.array([2, 2], numpy.uint32), values, 2, told="more than 2^63")
+    for words in (None, b""), ("p sp 0 0\n", b""), (b"", bytearray()), (None, None):
+        raises(TypeError, handle_of().open, *words)
+    for node in 3, 4, 2**31, 2**32 - 1:
+        outside = columns_of([0, node])[0]
+        for call, *words in (
+            (handle.distances, outside, right), (handle.distances, right, outside), (handle.table, outside, right), (handle.table, right, outside),
+            (handle.keep_places, outside), (route, handle, node, 0), (route, handle, 0, node), (handle.route_sums, outside, right, values),
+            (handle.flows, outside, right, values, 2),
+        ):
+            raises(ValueError, call, *words, told="not one of the network")
     many = numpy.zeros(65_537, numpy.uint32)
-    raises(ValueError, handle.table, many, right, told="65,536")
-    raises(ValueError, handle.table, right, many, told="65,536")
-    raises(ValueError, handle.keep_places, many, told="65,536")
+    for told, call, *words in (
+        ("lengths", handle.distances, right, right[:1]), ("lengths", handle.route_sums, right, right[:1], values), ("lengths", handle.route_sums, right, right, values[:1]),
+        ("lengths", handle.route_sums, right, right, numpy.zeros(3, numpy.uint64)), ("lengths", handle.flows, right, right[:1], values, 2),
+        ("lengths", handle.flows, right, right, values[:1], 2), ("lengths", handle.flows, right, right, values, 1), ("lengths", handle.flows, right, right, values, 3),
+        ("64 bits", handle.table, right, right, -1), ("64 bits", handle.table, right, right, 2**64), ("64 bits", handle.keep_places, right, -1),
+        ("64 bits", handle.keep_places, right, 2**64), ("one of 32", handle.keep_places, right, 5, -1), ("one of 32", handle.keep_places, right, 5, 2**32),
+        ("no places are kept", handle.sweep), ("no places are kept", handle.near_rows, right, 9), ("65,536", handle.table, many, right),
+        ("65,536", handle.table, right, many), ("65,536", handle.keep_places, many), ("more than 2^63", handle.flows, right, last, values, 2),
+        ("2^64 or more", handle.route_sums, right[:1], last[:1], values | 1),
+    ):
+        raises(ValueError, call, *words, told=told)
+    # What is right is answered, after all of this.
+    weights, sums = handle.route_sums(sources, targets, values)
+    assert (weights.tolist(), sums.tolist()) == ([9, -1, 5], [2**64 - 1, 0, 2**63 - 1])
+    missed, flows = handle.flows(sources, targets, numpy.array([2, 3, 5], numpy.uint64), 2)
+    assert (missed, flows.tolist(), flows.dtype) == (1, [2, 7], numpy.uint64)
+    assert handle.distances(right, right[::-1].copy()).tolist() == [4, -1] and handle.table(right, right).tolist() == [[0, 4], [-1, 0]]
     handle.keep_places(right)
     raises(ValueError, handle.near_rows, outside, 9, told="not one of the network")
     raises(ValueError, handle.near_rows, right, -1)
     nothing = numpy.zeros(0, numpy.uint32)
     assert handle.distances(nothing, nothing).tolist() == [] and handle.table(nothing, right).shape == (0, 2) and handle.table(right, nothing).shape == (2, 0)
     assert [part.tolist() for part in handle.near_rows(nothing, 0)] == [[]] * 3 and [part.tolist() for part in handle.near_rows(right, 2)] == [[2], [0, 4], [0, 1]]
-    for words in (None, b""), ("p sp 0 0\n", b""), (b"", bytearray()), (None, None):
-        raises(TypeError, handle_of().open, *words)
-    graph, other = FIRST.read_bytes(), library.Handle(handle.calls)
+
+
+def test_what_is_no_network_like_another_is_refused():
+    """Texts that are no graph, other shares than a per cent, another number of nodes, and the handle itself; the other one answers on, and is saved."""
+    handle, graph = handle_of(), FIRST.read_bytes()
+    other = library.Handle(handle.calls)
     for wrong in None, "p sp 0 0\n", bytearray(graph):
         raises(TypeError, other.open_like, wrong, handle, 5, told="files are bytes")
-    for fresh in -1, 2**32:
-        raises(ValueError, other.open_like, graph, handle, fresh, told="from 0 to 100")
-    raises(ValueError, handle.open_like, graph, handle, 5, told="of another handle")
-    raises(ValueError, other.open_like, graph, handle, 101, told="more than 100")
-    raises(ValueError, other.open_like, graph.replace(b"p sp 3", b"p sp 4"), handle, 5, told="another number of nodes")
+    for told, text, fresh, into in (
+        ("from 0 to 100", graph, -1, other), ("from 0 to 100", graph, 2**32, other), ("more than 100", graph, 101, other), ("of another handle", graph, 5, handle),
+        ("another number of nodes", graph.replace(b"p sp 3", b"p sp 4"), 5, other),
+    ):
+        raises(ValueError, into.open_like, text, handle, fresh, told=told)
     assert raises(chtab.ProgramFault, other.open_like, graph + b"a 1 2 3\n", handle, 5, told="graph line 5: too many lines").line == 5
     other.open_like(graph.replace(b"2 3 5", b"2 3 6"), handle, 5)
     assert route(other, 0, 2)[0] == 10
@@ -141,12 +131,12 @@ def test_what_c_would_misread_is_refused():
     assert route(handle, 0, 2)[0] == 9 and route(handle, 0, 2)[1].tolist() == [0, 1, 2] and route(handle, 2, 0)[0] == -1
 
 
+def columns_of(*columns):
+    return [numpy.array(column, numpy.uint32) for column in columns]
+
+
 def test_nodes_are_those_of_the_network():
     """Numbers that C would take for other nodes, which a network's own test of labels doesn't let through either."""
-    import numpy
-
-    from chtab._engine import library
-
     assert library.nodes_of(numpy.array([[1, 9], [3, 9]])[:, 0], 3).tolist() == [0, 2] and library.nodes_of([1, 2], 3).flags.c_contiguous
     assert library.nodes_of([], 3).dtype == numpy.uint32 and library.nodes_of(numpy.array([3], numpy.uint8), 3).tolist() == [2]
     for wrong in 0, 4, -1, 2**32 + 1, 2**32, 2**63 - 1, -2**63:
@@ -162,8 +152,6 @@ def test_nodes_are_those_of_the_network():
 
 def test_a_hierarchy_is_built_where_none_is_saved():
     """Its distances, cells and routes are those of the program by its saved hierarchy, and its text is that of `save --quick`."""
-    from chtab._engine import library
-
     ends = [(1 + 37 * place % 3154, 1 + 101 * place % 3154) for place in range(300)]
     files.write_queries("ends.p2p", ends)
     quick = subprocess.run([PROGRAM, "save", "--quick", GRAPH], capture_output=True, check=True).stdout
@@ -204,12 +192,8 @@ def test_faults_are_told_as_by_the_program():
 
 def test_columns_that_are_no_graph_are_refused():
     """Of a graph that is given as columns: what C would misread, and in the words of the program what is no graph, with the arc."""
-    import numpy
-
-    from chtab._engine import library
-
     handle, saved = library.Handle(library.loaded(make())), FIRST_SAVED.read_bytes()
-    ends, weights = [numpy.array(column, numpy.uint32) for column in ([0, 1], [1, 2])], numpy.array([4, 5], numpy.uint64)
+    ends, weights = columns_of([0, 1], [1, 2]), numpy.array([4, 5], numpy.uint64)
     for given in (ends[0].astype(numpy.int32), ends[1], weights), (ends[0], ends[1].tolist(), weights), (*ends, weights.astype(numpy.float64)), (*ends, weights[::-1]):
         raises(TypeError, handle.open_arrays, 3, *given, saved, told="the library takes a column")
     raises(TypeError, handle.open_arrays, 3, *ends, weights, "text", told="files are bytes")
@@ -225,13 +209,11 @@ def test_columns_that_are_no_graph_are_refused():
         raises(chtab.ProgramFault, handle.open_arrays, 3, *ends, weights, text, told=told)
     handle.open_arrays(3, *ends, weights, saved)
     assert handle.nodes() == 3 and handle.save() == saved
-    assert handle.distances(*(numpy.array(column, numpy.uint32) for column in ([0, 2], [2, 0]))).tolist() == [9, -1]
+    assert handle.distances(*columns_of([0, 2], [2, 0])).tolist() == [9, -1]
 
 
 def test_networks_of_arcs_are_given_to_the_library_as_columns(monkeypatch):
     """Their graph is written for others, and not read again; the answers are those of the files, also in a forked process and by lines of arcs."""
-    from chtab._engine import in_process
-
     read, own = [], in_process.contents_of
 
     def contents_of(path):
@@ -254,23 +236,14 @@ def test_networks_of_arcs_are_given_to_the_library_as_columns(monkeypatch):
             assert [tuple(each) for each in network.routes(pairs)] == [tuple(each) for each in again.routes(pairs)]
         shutil.copy("made/network.gr", "kept.gr")
         pathlib.Path("made/network.gr").write_text("p sp 3 0\n")
-        child = os.fork()
-        if not child:
-            # The graph's file has changed, so a process that opens the network anew finds that out.
-            try:
-                network.distances(pairs)
-            except chtab.ChtabError:
-                os._exit(7)
-            os._exit(1)
-        assert os.waitstatus_to_exitcode(os.waitpid(child, 0)[1]) == 7
+        # The graph's file has changed, so a process that opens the network anew finds that out.
+        assert forked(lambda: raises(chtab.ChtabError, network.distances, pairs))
         assert network.distances(pairs).tolist() == [0, 0, 3, 2, 0, 5, 3, 3, 0]
 
 
 def test_routes_of_another_graph_are_found_out():
     """Arcs are weighed by the graph's file. Where it is another one since it was opened, no route is told by it, also if the weights of its arcs
     have the same sum. Arcs that were read before go on to be right."""
-    import numpy
-
     for old, new in ("a 1 2 4\na 2 3 5", "a 1 2 5\na 2 3 4"), ("a 2 3 5", "a 3 2 5"), ("a 2 3 5\n", ""):
         shutil.copy(FIRST, "own.gr")
         with chtab.Network.open("own.gr", saved=FIRST_SAVED, program=PROGRAM, library=make()) as network:
@@ -297,8 +270,6 @@ def answers(network):
 
 def test_it_is_taken_where_it_is():
     """Beside the program; where there is none, or sources of a checkout are newer, the fault says how it is made."""
-    from chtab._engine import library
-
     for place in "beside", "lib/chtab", "checkout", "checkout/crates/chtab/out", "alone":
         os.makedirs(place)
         shutil.copy(PROGRAM, f"{place}/chtab")
@@ -330,8 +301,6 @@ def test_it_is_taken_where_it_is():
 
 def test_another_library_is_not_taken():
     """A file that is no library, a library of others, and one of another version."""
-    from chtab._engine import library
-
     other = next(path for path in pathlib.Path("/usr/lib").glob("**/libz.so.1") if path.exists())
     for place, path in enumerate((FIRST, "/dev/null", other, make())):
         os.mkdir(str(place))
@@ -351,8 +320,6 @@ def test_another_library_is_not_taken():
 
 def test_few_distances_are_those_of_their_pairs():
     """Lists of few pairs go without arrays. What is no known label, or no pair, is told as of arrays; a question in the middle of one spoils none."""
-    import numpy
-
     with of_first() as network:
         for count in 1, 2, 16, 17, 40:
             pairs = [(1 + place % 3, 1 + place // 3 % 3) for place in range(count)]
@@ -377,3 +344,23 @@ def test_few_distances_are_those_of_their_pairs():
             assert network.answers_by == "library" and network.distances([(labels[0], labels[2]), (labels[1], labels[0])]).tolist() == [9, -1]
             for wrong in 0, 2**62 + 1, 2**63, -2**63 - 1, "x", True, None, 2**90:
                 raises((ValueError, TypeError), network.distances, [(labels[0], wrong)])
+
+
+def test_sums_of_a_table_take_one_call(monkeypatch):
+    """Pairs that share their nodes, as those of a table, have their sums by one call, and other pairs by several. All have the same sums."""
+    counts, sums = [], library.Handle.route_sums
+
+    def counted(handle, sources, targets, values):
+        counts.append(len(sources))
+        return sums(handle, sources, targets, values)
+
+    monkeypatch.setattr(library.Handle, "route_sums", counted)
+    node = numpy.arange(1, 2_001)
+    with chtab.Network.from_arrays(node[:-1], node[1:], node[:-1], program=PROGRAM, library=make()) as network:
+        table = numpy.stack(numpy.meshgrid(node[:60], node[-60:], indexing="ij"), axis=-1).reshape(-1, 2)
+        apart = numpy.column_stack([node, node[::-1]]).repeat(2, axis=0)
+        for pairs, called in (table, [3_600]), (apart, [in_process.ROUTES, 4_000 - in_process.ROUTES]), (table[:9], [9]):
+            counts.clear()
+            found = network.along(numpy.ones(1_999, int), pairs)
+            steps = (pairs[:, 1] - pairs[:, 0]).astype(float)
+            assert counts == called and numpy.array_equal(found, numpy.where(steps < 0, numpy.nan, steps), equal_nan=True)

@@ -1,4 +1,6 @@
 """Tests the Python package: files, what it says of its calls, networks over the built program, frames, and installing."""
+import pydoc
+import pty
 import inspect
 import os
 import pathlib
@@ -9,14 +11,16 @@ import tomllib
 
 import pytest
 
-from helpers.cases import Case
 from helpers.commands import raises
 from helpers.maps import COUNTRY
 from helpers.marks import needs
 from helpers.packages import PYTHON
 from helpers.running import PROGRAM, ROOT
-from helpers.writing import write_graph
+from helpers.science import pandas
 import chtab
+from chtab._near.found import Nearest
+from chtab._roads.reach import Isochrones
+from chtab._roads.routes import TripRoutes
 from chtab import files
 from chtab._engine.progress import Progress
 from chtab._near.found import Near
@@ -68,11 +72,8 @@ def test_weights_are_whole():
     raises(chtab.FileFault, files.write_graph, "half.gr", 2, [(1, 2, float("nan"))], (), 1000, told="arcs[0]: nan is no weight")
 
 
-@needs("python3-numpy")
 def test_what_is_told_of_the_package():
     """`dir` has the network, `help` nothing that is no caller's, and a network says what it is."""
-    import pydoc
-
     assert dir(chtab) == sorted(chtab.__all__) and all(hasattr(chtab, name) for name in chtab.__all__)
     assert {*chtab.__all__} == {"Network", "Routes", "Near", "Spots", "ChtabError", *ERRORS, "__version__"}
     wanted = "accessibility along answers_by assign changed close components coordinates crossings customizable distances flows flows_table frame from_arrays from_frame from_geodataframe "
@@ -96,7 +97,6 @@ def test_versions_of_aiohttp_with_known_faults_are_refused():
     assert [version for version in ("3.8.3", "3.8.4", "3.8.5", "3.8.6", "3.9.0", "3.9.1", "3.9.2", "3.10.0") if version in wanted] == ["3.8.4", "3.9.2", "3.10.0"]
 
 
-@needs("python3-numpy")
 def test_a_name_that_is_not_there_is_refused():
     raises(AttributeError, lambda: chtab.nothing, told="module 'chtab' has no attribute 'nothing'")
     raises(ImportError, lambda: __import__("chtab.nothing"))
@@ -104,10 +104,6 @@ def test_a_name_that_is_not_there_is_refused():
 
 def public_calls():
     """The calls that users see, each with its name: those of networks, of what these answer, and of files."""
-    from chtab._near.found import Nearest
-    from chtab._roads.reach import Isochrones
-    from chtab._roads.routes import TripRoutes
-
     for name in filter(lambda name: inspect.isfunction(getattr(files, name)), files.__all__):
         yield f"files.{name}", getattr(files, name)
     for kind in chtab.Network, Routes, Near, Nearest, TripRoutes, Isochrones:
@@ -128,7 +124,6 @@ NEVER_FAIL = "files.scale_comment", "Network.close", "Routes.rows", "Routes.edge
 MOST_LINES = 72
 
 
-@needs("python3-numpy", "python3-scipy", "python3-shapely")
 def test_each_call_tells_what_it_takes_and_gives():
     """The text of each call that users see has its parameters by name, the shapes of arrays, what it gives, what goes wrong, and the unit of numbers."""
     count = 0
@@ -151,58 +146,6 @@ def test_each_call_tells_what_it_takes_and_gives():
     assert count > 60, count
 
 
-@needs("python3-numpy")
-def test_random_graphs_answer_as_dijkstra():
-    """Distances, tables and routes of random graphs."""
-    import numpy
-
-    for seed in range(24):
-        case = Case(seed)
-        write_graph("graph.gr", case.nodes, case.arcs)
-        with chtab.Network.open("graph.gr", program=PROGRAM) as network:
-            wanted = [-1 if weight is None else weight for _, _, weight, _ in case.answers()]
-            found = network.distances(numpy.array(case.queries, int).reshape(-1, 2))
-            assert found.dtype == numpy.int64 and found.tolist() == wanted, (seed, found, wanted)
-            for within in None, case.limit:
-                rows = [row.split()[2:] for row in case.table(*([] if within is None else [within])).splitlines()]
-                table = network.table(*case.lists, within=within)
-                assert table.shape == tuple(map(len, case.lists)), table.shape
-                assert table.tolist() == [[-1 if cell == "-" else int(cell) for cell in row] for row in rows], (seed, within)
-            routes = network.routes(case.queries)
-            assert [(each.source, each.target) for each in routes] == case.queries
-            for each, weight in zip(routes, wanted):
-                assert (each.weight, each.nodes is None) == ((None, True) if weight < 0 else (weight, False)), each
-                if each.nodes:
-                    arcs = [*zip(each.nodes, each.nodes[1:], each.weights)]
-                    assert set(arcs) <= set(case.arcs) and sum(each.weights) == weight
-                    assert (each.nodes[0], each.nodes[-1]) == (each.source, each.target)
-
-
-@needs("python3-numpy", "python3-scipy")
-def test_roads_answer_as_scipy():
-    """10,000 pairs of Liechtenstein, and a table, against scipy's own search."""
-    import numpy
-    from scipy.sparse import csr_matrix
-    from scipy.sparse.csgraph import dijkstra
-
-    graph = files.read_graph(f"{COUNTRY}.gr")
-    least = {}
-    for tail, head, weight in sorted(zip(*graph[1:4]), reverse=True):
-        least[tail - 1, head - 1] = weight
-    matrix = csr_matrix((list(map(float, least.values())), tuple(zip(*least))), shape=(graph.nodes, graph.nodes))
-    draw = numpy.random.default_rng(38)
-    sources = draw.integers(1, graph.nodes + 1, 100)
-    pairs = numpy.column_stack([numpy.repeat(sources, 100), draw.integers(1, graph.nodes + 1, 10_000)])
-    wanted = dijkstra(matrix, indices=sources - 1)
-    with chtab.Network.open(f"{COUNTRY}.gr", program=PROGRAM) as network:
-        assert network.unit == "milliseconds"
-        found = network.distances(pairs)
-        assert numpy.array_equal(found, wanted[numpy.repeat(numpy.arange(100), 100), pairs[:, 1] - 1].astype(int))
-        assert numpy.array_equal(found, network.distances(pairs[:, 0], pairs[:, 1]))
-        assert numpy.array_equal(network.table(sources, numpy.arange(1, graph.nodes + 1)), wanted.astype(int))
-
-
-@needs("python3-numpy")
 def test_what_is_not_a_question_is_refused():
     with chtab.Network.open(FIRST, program=PROGRAM) as network:
         for pairs, told in ([(1, 4)], "node 4 is not from 1 to 3"), ([(0, 1)], "node 0"), ([1, 2, 3], "shape (n, 2)"), ([(1.5, 2)], "whole number"):
@@ -236,8 +179,6 @@ def test_signs_of_life():
     done = subprocess.run([PYTHON, "-c", text, ROOT / "python"], capture_output=True, text=True)
     assert done.stdout == "" and [line[:25] for line in done.stderr.splitlines()] == ["blocks: 2 of 4 blocks after"[:25], "blocks: 4 of 4 blocks after"[:25]], done
     assert Progress("x", 10, "things").line().startswith("x: 0 of 10 things")
-    import pty
-
     master, slave = pty.openpty()
     subprocess.run([PYTHON, "-c", head + steps.format("time.sleep(0.5)"), ROOT / "python"], stderr=slave)
     os.close(slave)
@@ -245,10 +186,7 @@ def test_signs_of_life():
     os.close(master)
 
 
-@needs("python3-numpy", "python3-pandas")
 def test_frames_and_features():
-    import pandas
-
     with chtab.Network.open(f"{COUNTRY}.gr", program=PROGRAM) as network:
         nodes, metres = network.nearest_nodes(*zip(VADUZ, MALBUN))
         assert nodes.tolist() == [72, network.nearest_nodes(*MALBUN)[0][0]] and metres.max() < 100
@@ -279,7 +217,7 @@ def installed(name, has_program):
     return pathlib.Path(f"{name}/bin/python").absolute()
 
 
-@needs("python3-numpy", "python3-pip", "python3-setuptools", "python3-wheel", "python3-venv")
+@needs("python3-pip", "python3-setuptools", "python3-wheel", "python3-venv")
 def test_it_installs_without_a_network():
     """By pip: the package takes the program along where it was built, and else tells both ways to name one."""
     elsewhere = {"cwd": "/", "env": {"PATH": "/usr/bin:/bin"}, "capture_output": True, "text": True}

@@ -2,6 +2,7 @@
 import os
 import pathlib
 
+from helpers.commands import raises
 from helpers.maps import ROAD, called, converted, in_line, osm, tool
 from chtab import files
 
@@ -51,16 +52,8 @@ def test_files_of_streets():
         (whole.replace("s {", "s [{", 1), "line 6"), (whole.replace("side: right", "side: middle"), "line 4"), ("s " + "[" * 100_000 + "\n", "line 1"),
     ]:
         pathlib.Path("spoilt.names").write_text(spoilt)
-        try:
-            files.read_streets("spoilt.names", 8)
-            raise AssertionError(spoilt[:200])
-        except files.FileFault as fault:
-            assert str(fault).startswith("spoilt.names") and told in str(fault), (told, fault)
-    try:
-        files.read_streets("named.names", 9)
-        raise AssertionError
-    except files.FileFault as fault:
-        assert "another graph" in str(fault)
+        assert str(raises(files.FileFault, files.read_streets, "spoilt.names", 8, told=told)).startswith("spoilt.names")
+    raises(files.FileFault, files.read_streets, "named.names", 9, told="another graph")
     tool("osm_to_gr", "--quiet", "names.osm", "named")
     assert not pathlib.Path("named.names").exists()
 
@@ -83,8 +76,4 @@ def test_files_of_ways():
         (whole.replace("w 3", f"w {2**63}", 1), len(found), "too large"),
     ):
         pathlib.Path("spoilt.ways").write_text(spoilt)
-        try:
-            files.read_ways("spoilt.ways", arcs)
-            raise AssertionError(spoilt)
-        except files.FileFault as fault:
-            assert str(fault).startswith("spoilt.ways") and told in str(fault), (told, fault)
+        assert str(raises(files.FileFault, files.read_ways, "spoilt.ways", arcs, told=told)).startswith("spoilt.ways")

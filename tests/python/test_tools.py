@@ -9,6 +9,8 @@ import xml.etree.ElementTree
 
 import pytest
 
+from helpers.commands import command as tool
+from helpers.commands import run
 from helpers.maps import COUNTRY
 from helpers.marks import needs
 from helpers.moods import STANDIN, mood
@@ -20,27 +22,11 @@ pytestmark = pytest.mark.usefixtures("program")
 VILLAGE = ROOT / "tests" / "data" / "village.osm"
 
 
-def run(*command, text="", status=0, **more):
-    """What a command writes to standard output, or with another status to standard error."""
-    done = subprocess.run([str(word) for word in command], input=text, capture_output=True, text=True, **more)
-    assert done.returncode == status, (command, done.returncode, done.stderr)
-    assert status or not done.stderr, done.stderr
-    return done.stderr if status else done.stdout
-
-
-def tool(name, *words, **more):
-    return run(PYTHON, ROOT / "tools" / f"{name}.py", *words, **more)
-
-
 def without(package):
     """An environment in which a package can't be imported."""
     pathlib.Path("none").mkdir(exist_ok=True)
     pathlib.Path("none", f"{package}.py").write_text("raise ImportError\n")
     return os.environ | {"PYTHONPATH": "none"}
-
-
-def items(text):
-    return "".join(line + "\n" for line in text.splitlines() if not line.startswith("c "))
 
 
 def write_list(path, nodes):

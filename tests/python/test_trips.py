@@ -8,22 +8,21 @@ import pytest
 
 from helpers.commands import command, raises
 from helpers.maps import COUNTRY, random_map
-from helpers.marks import needs
 from helpers.running import PROGRAM
 from helpers.writing import write_graph
+from helpers.science import numpy
+from shapely.geometry import MultiPoint, Point, shape
 from oracles import mapping
 import chtab
 from chtab import files
 
-pytestmark = [needs("python3-numpy", "python3-scipy", "python3-shapely"), pytest.mark.usefixtures("program")]
+pytestmark = pytest.mark.usefixtures("program")
 VADUZ, MALBUN, RUGGELL = (9.5209, 47.1410), (9.6079, 47.1020), (9.5280, 47.2390)
 
 
 def test_trips_are_exact_between_places_on_roads():
     """Places beside roads: trips on the graph of crossings with its bends against those on the graph of all bends, by a search of this
     script over both ends of each road."""
-    import numpy
-
     graphs = ("all", ["--nodes", "all"]), ("crossings", ["--bends"])
     for name, words in graphs:
         command("osm_to_gr", "--quiet", *words, f"{COUNTRY}.osm.bz2", name)
@@ -77,9 +76,6 @@ def test_places_on_one_road_and_past_it():
 
 def test_reach_is_where_its_nodes_are():
     """Polygons of reach have all nodes that are reached, but for their smoothed corners, and few of the others."""
-    import numpy
-    from shapely.geometry import MultiPoint, Point, shape
-
     with chtab.Network.open(f"{COUNTRY}.gr", program=PROGRAM) as network:
         spot = network.snap(*VADUZ)
         times = network.reach(spot, 600_000)
@@ -134,8 +130,6 @@ def test_lines_in_arrays_are_those_of_the_file():
 
 def test_places_are_taken_to_the_nearest_road():
     """Places near roads and far from them, against a search through all pieces of all roads."""
-    import numpy
-
     graph, coordinates, bends = crossings()
     pieces = numpy.array([[*a, *b] for line in lines_of_arcs(graph, coordinates, bends) for a, b in zip(line, line[1:])])
     draw = random.Random("nearest roads")
@@ -161,8 +155,6 @@ def test_places_are_taken_to_the_nearest_road():
 
 def test_routes_follow_the_bends_of_their_roads():
     """Routes between nodes as GeoJSON, against the lines of their arcs one after the other; and without a file of bends from node to node."""
-    import numpy
-
     graph, coordinates, bends = crossings()
     lines = {}
     for line, *arc in zip(lines_of_arcs(graph, coordinates, bends), graph.tails, graph.heads, graph.weights):
@@ -221,8 +213,6 @@ def test_what_is_no_place_is_refused():
 def test_reach_within_a_limit_leaves_out_nothing():
     """What is reached within a limit is all that a search without a limit finds so near. Also where a road takes no time, and where a node has no
     place."""
-    import numpy
-
     def same(network, place, limits):
         spot = network.snap(*place)
         whole = network.reach(spot)

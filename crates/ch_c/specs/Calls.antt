@@ -23,11 +23,13 @@ use Rattle.ch_engine.specs.Opened.{IsOpened, IsOpenedLike, IsOpenedOfArrays, IsO
 use Rattle.ch_engine.specs.Routes.{AreRoutesWritten, IsFound}
 use Rattle.ch_engine.specs.RouteSums.{ArePairSumsWritten}
 use Rattle.ch_engine.specs.Sums.{AreSumsWritten}
+use Rattle.ch_engine.specs.TableSums.{AreTableSumsWritten}
 use Rattle.ch_engine.specs.Cells.{ArePairCells, AreTableCells, no_distance}
 use Rattle.ch_engine.specs.Refusals.{AreFlowLengths, AreFlowTableLengths, IsRefusalOfFlowTable, IsRefusalOfFlows}
 use Rattle.ch_engine.specs.Refusals.{AreNodes, ArePairs, ArePairSumLengths, ArePlaces, AreRouteLengths, AreRowSources}
 use Rattle.ch_engine.specs.Refusals.{AreSumSources, AreTableLists, IsLikeError, IsNodePair, IsOpenError, IsRefusalOfPairs}
 use Rattle.ch_engine.specs.Refusals.{IsRefusalOfPairSums, IsRefusalOfPlaces, IsRefusalOfRoute, IsRefusalOfRoutes, IsRefusalOfRows}
+use Rattle.ch_engine.specs.Refusals.{AreTableSumLengths, IsRefusalOfTableSums}
 use Rattle.ch_engine.specs.Refusals.{IsRefusalOfSums, IsRefusalOfSweep, IsRefusalOfTable, IsArraysOpenError}
 use Rattle.ch_c.specs.declared.faults.Fault.{Fault}
 use Rattle.ch_c.specs.declared.answers.Found.{Found}
@@ -309,6 +311,19 @@ ArePairSumsAnswered held sources targets values before after status =
     × (StaysFrom after.pairs before.weights after.weights × StaysFrom after.pairs before.sums after.sums))
     ⊎ ((refusal : Refusal) × (status ≡ refusal_status refusal) × (after ≡ before)
     × IsRefusalOfPairSums (nodes_of held.hierarchy) held.lines.count sources targets (length values) (length before.weights)
+    (length before.sums) refusal)
+
+-- sums along the routes of a table's cells, as far as there is memory, or they are refused and all is as before. Behind the
+-- cells that are written all is as before
+abbrev pub AreTableSumsAnswered : Held → List ℕ → List ℕ → List ℕ → PairSumArrays → PairSumArrays → ℕ → Type 0
+AreTableSumsAnswered held sources targets values before after status =
+    ((end : SumsEnd) × (status ≡ sums_status end) × AreTableSumLengths (length sources) (length targets) (length before.weights)
+    (length before.sums) (length values) held.lines.count
+    × (AreNodes (nodes_of held.hierarchy) sources × AreNodes (nodes_of held.hierarchy) targets)
+    × AreTableSumsWritten held sources targets values after.weights after.sums (record { count = after.pairs; end = end })
+    × (StaysFrom after.pairs before.weights after.weights × StaysFrom after.pairs before.sums after.sums))
+    ⊎ ((refusal : Refusal) × (status ≡ refusal_status refusal) × (after ≡ before)
+    × IsRefusalOfTableSums (nodes_of held.hierarchy) held.lines.count sources targets (length values) (length before.weights)
     (length before.sums) refusal)
 
 -- the status for what became of flows

@@ -5,7 +5,7 @@ ghost use Rattle.ch_engine.specs.NearRows.{StaysFrom};
 ghost use Rattle.ch_hierarchy.specs.Hierarchy.{nodes_of};
 ghost use Rattle.ch_engine.specs.Opened.{IsOpened, IsOpenedLike, IsOpenedOfArrays, IsOpenedQuickly};
 ghost use Rattle.ch_engine.specs.Refusals.{IsArraysOpenError, IsLikeError, IsOpenError};
-ghost use Rattle.ch_c.specs.Calls.{AreFlowsAnswered, AreTableFlowsAnswered, ArePairsAnswered, ArePairSumsAnswered, AreRouteNodes, AreRoutesAnswered, IsRouteAnswered, IsRouteTold, IsSaved, IsTableAnswered};
+ghost use Rattle.ch_c.specs.Calls.{AreFlowsAnswered, AreTableFlowsAnswered, ArePairsAnswered, ArePairSumsAnswered, AreTableSumsAnswered, AreRouteNodes, AreRoutesAnswered, IsRouteAnswered, IsRouteTold, IsSaved, IsTableAnswered};
 
 use crate::near::{status_of_end, status_of_sums};
 use crate::status::{NO_MEMORY, OK, SUM_TOO_LARGE, TOO_SHORT, status_of};
@@ -237,6 +237,29 @@ pub(crate) fn write_route_sums(
     match engine.route_sums(alloc, sources, targets, values, weights, sums) {
         Ok(summed) => {
             *pairs = summed.count;
+            status_of_sums(summed.end)
+        }
+        Err(refusal) => status_of(refusal),
+    }
+}
+
+/// Writes sums along the routes of the cells of a table as far as they fit and there is memory. Returns a status.
+pub(crate) fn write_table_sums(
+    alloc: Global,
+    engine: &mut Engine,
+    sources: &[u32],
+    targets: &[u32],
+    values: &[u64],
+    cells: &mut u64,
+    weights: &mut [u64],
+    sums: &mut [u64],
+) -> u32
+    ensures answered { AreTableSumsAnswered engine.old sources.now targets.now values.now (record { pairs = cells.old; weights = weights.old; sums = sums.old }) (record { pairs = cells.new; weights = weights.new; sums = sums.new }) result }
+    ensures same { engine.new ≡ engine.old }
+{
+    match engine.table_sums(alloc, sources, targets, values, weights, sums) {
+        Ok(summed) => {
+            *cells = summed.count;
             status_of_sums(summed.end)
         }
         Err(refusal) => status_of(refusal),

@@ -2,13 +2,13 @@
 ghost use Rattle.std.specs.Prelude.{◌≡◌, ◌↔◌, IfSome, IsSome, IsTrue, MatchOption, None, Some, ⊤};
 ghost use Rattle.ch_hierarchy.specs.Hierarchy.{nodes_of};
 ghost use Rattle.ch_engine.specs.Lines.{IsOfSome};
-ghost use Rattle.ch_c.specs.Calls.{AreFlowsAnswered, ArePairsAnswered, ArePairSumsAnswered, ArePlacesKept, AreRoutesAnswered, AreRowsAnswered, AreSumsAnswered, AreTableFlowsAnswered, IsRouteAnswered, IsSaved, IsSwept, IsTableAnswered, OfNetwork};
+ghost use Rattle.ch_c.specs.Calls.{AreFlowsAnswered, ArePairsAnswered, ArePairSumsAnswered, ArePlacesKept, AreRoutesAnswered, AreRowsAnswered, AreSumsAnswered, AreTableFlowsAnswered, AreTableSumsAnswered, IsRouteAnswered, IsSaved, IsSwept, IsTableAnswered, OfNetwork};
 ghost use Rattle.ch_c.specs.declared.status.TheConstants.{OK};
 
 pub use crate::answers::Found;
 use crate::answers::{
     write_distances, write_flows, write_route, write_route_sums, write_routes, write_saved,
-    write_table, write_table_flows,
+    write_table, write_table_flows, write_table_sums,
 };
 use crate::erased::ErasedEngine;
 use crate::near::{keep_places, sweep, write_rows, write_sums};
@@ -240,6 +240,39 @@ pub extern "C" fn chtab_route_sums(
         targets,
         values,
         pairs,
+        weights,
+        sums,
+    );
+    handle.put(engine);
+    status
+}
+
+/// Writes sums along the routes of the cells of a table: the number of cells, and for each, row after row, the weight of its
+/// route, and the sum of the values on the lines of the route's arcs.
+#[unsafe(no_mangle)]
+pub extern "C" fn chtab_table_sums(
+    alloc: Global,
+    handle: &mut Handle,
+    sources: &[u32],
+    targets: &[u32],
+    values: &[u64],
+    cells: &mut u64,
+    weights: &mut [u64],
+    sums: &mut [u64],
+) -> u32
+    ensures answered { OfNetwork handle.old.engine.network result ((cells.new ≡ cells.old) × (weights.new ≡ weights.old) × (sums.new ≡ sums.old)) (λ held. AreTableSumsAnswered held sources.now targets.now values.now (record { pairs = cells.old; weights = weights.old; sums = sums.old }) (record { pairs = cells.new; weights = weights.new; sums = sums.new }) result) }
+    ensures same { handle.new.engine.network ≡ handle.old.engine.network }
+{
+    let Some(mut engine) = handle.take(alloc) else {
+        return CLOSED;
+    };
+    let status = write_table_sums(
+        alloc,
+        &mut engine,
+        sources,
+        targets,
+        values,
+        cells,
         weights,
         sums,
     );

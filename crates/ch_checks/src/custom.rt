@@ -15,7 +15,7 @@ use ch_hierarchy::{Hierarchy, Side};
 use ch_query::Start;
 use ch_read::{ReadError, read_graph};
 use ch_text::save_text;
-use ch_tree::{NEVER, distance, ranked_space, tree_for};
+use ch_tree::{NEVER, TreeScratch, distance, ranked_space, tree_for};
 use std::alloc::{AllocError, Global};
 use std::test::Fail;
 
@@ -42,15 +42,15 @@ fn by_tree(
     requires tree { IsTree hierarchy.now parents.now }
 {
     let _limits = graph.nodes();
-    let mut ups = vec![in alloc; NEVER; hierarchy.nodes() as usize]?;
-    let mut downs = vec![in alloc; NEVER; hierarchy.nodes() as usize]?;
-    let distance = distance(hierarchy, parents, &mut ups, &mut downs, 0, 4);
+    let mut scratch = TreeScratch::new(alloc, hierarchy.nodes())?;
+    let distance = distance(hierarchy, parents, &mut scratch, 0, 4);
     let start = Start {
         source: 0,
         side: Side::Up,
         within: None,
     };
-    let space = ranked_space(alloc, hierarchy, parents, &mut ups, start)?;
+    let mut costs = vec![in alloc; NEVER; hierarchy.nodes() as usize]?;
+    let space = ranked_space(alloc, hierarchy, parents, &mut costs, start)?;
     Ok(Answers {
         text: save_text(alloc, hierarchy)?,
         distance,

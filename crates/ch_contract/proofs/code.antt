@@ -17,3 +17,4 @@ pub mod Touching
 pub mod Neighbours
 pub mod NodeLists
 pub mod NodeBounds
+pub mod Counted

@@ -1,5 +1,5 @@
 -- The measures of nodes, and the priorities of the remaining nodes.
-use Rattle.std.specs.Prelude.{◌≡◌, ℕ, List, length, slice_index, max, Contains, ℤ}
+use Rattle.std.specs.Prelude.{◌≡◌, ℕ, ◌≤◌, List, length, slice_index, max, Contains, ℤ}
 use Rattle.ch_contract.specs.declared.measure.Measure.{Measure}
 use Rattle.ch_contract.specs.declared.measure.OrderBy.{OrderBy}
 use Rattle.ch_contract.specs.declared.shortcut.Shortcut.{Shortcut}
@@ -10,6 +10,11 @@ use Rattle.ch_contract.specs.Remaining.{RemainingLegs, legs_of}
 -- the measure of v: the number of its shortcuts, and the number of legs that touch it
 abbrev pub IsMeasure : ℕ → ℕ → Legs → ℕ → Measure → Type 0
 IsMeasure n h L v m = (list : List Shortcut) × AreShortcuts n h L v list × (m.shortcuts ≡ length list) × (m.legs ≡ count_touching n L v)
+
+-- the measure of v. If v has more than `most` shortcuts, more than `most` of them are counted, and maybe not all
+abbrev pub IsMeasureUpTo : ℕ → ℕ → ℕ → Legs → ℕ → Measure → Type 0
+IsMeasureUpTo most n h L v m = (list : List Shortcut) × AreShortcuts n h L v list × (m.shortcuts ≤ length list)
+    × (m.shortcuts ≤ most → m.shortcuts ≡ length list) × (m.legs ≡ count_touching n L v)
 
 -- the priority of a node with the remaining legs, where this list has the depth of each node
 abbrev pub IsPriorityIn : OrderBy → RemainingLegs → ℕ → List ℕ → ℕ → ℤ → Type 0

@@ -3,7 +3,7 @@
 ghost use Rattle.std.specs.Prelude.{◌≡◌, ℕ, ◌<◌, ◌++◌, ◌∷◌, [], length, IfOk, IfSome, OnOk, slice_index};
 ghost use Rattle.ch_contract.specs.Legs.{Legs, turned_legs};
 ghost use Rattle.ch_contract.specs.Contraction.{Contracts};
-ghost use Rattle.ch_contract.specs.Measures.{IsMeasure};
+ghost use Rattle.ch_contract.specs.Measures.{IsMeasure, IsMeasureUpTo};
 ghost use Rattle.ch_contract.specs.Remaining.{legs_of, IsSetAside};
 ghost use Rattle.ch_contract.specs.Rooms.{AreIdle};
 
@@ -14,6 +14,13 @@ use crate::shortcut::Shortcut;
 use crate::witness_searches::WitnessSearches;
 use std::alloc::{AllocError, Global};
 
+/// The most nodes whose shortcuts are kept for their contraction, which often comes next.
+const MOST_KEPT: usize = 256;
+
+/// The most pairs of legs of a node whose shortcuts are kept. A node of more pairs is judged again when it is contracted,
+/// because to keep a shortcut of each pair at each neighbour of a hub would take much memory.
+const MOST_KEPT_PAIRS: u64 = 1 << 14;
+
 /// The room in which one worker judges nodes. It keeps the shortcuts of the nodes that it judged with the legs
 /// that remain now.
 #[derive(Drop)]
@@ -23,6 +30,8 @@ pub struct Room {
     pub judged: Vec<u32>,
     /// The shortcuts of these nodes, at the same places. The lists after them are spare.
     pub lists: Vec<Vec<Shortcut>>,
+    /// Shortcuts of a node that are counted and not kept.
+    pub spare: Vec<Shortcut>,
 }
 
 impl Room {
@@ -36,6 +45,7 @@ impl Room {
             searches: WitnessSearches::new(alloc),
             judged: Vec::new(alloc),
             lists: Vec::new(alloc),
+            spare: Vec::new(alloc),
         }
     }
 
@@ -44,6 +54,32 @@ impl Room {
         ensures { (n h : ℕ) (L : Legs) → AreIdle self.old.searches → IsReady n h L self.new }
     {
         self.judged.clear();
+    }
+
+    /// Judges a node. Returns the number of its shortcuts, and the number of legs that touch it. It keeps the shortcuts, unless
+    /// the node has many pairs of legs. If such a node has more than `most` shortcuts, more than `most` of them are counted,
+    /// and maybe not all, so that a hub takes little time and memory.
+    #[tactic(auto, using(crate::proofs::code::Counted::measure_up_to))]
+    pub fn judge_up_to(
+        &mut self,
+        alloc: Global,
+        remaining: &Remaining,
+        node: u32,
+        hops: HopBound,
+        most: u64,
+    ) -> Result<Measure, AllocError>
+        requires node { node < remaining.now.nodes }
+        requires ready { IsReady remaining.now.nodes hops.number (legs_of remaining.now) self.old }
+        ensures measure { IfOk result (IsMeasureUpTo most remaining.now.nodes hops.number (legs_of remaining.now) node) }
+        ensures ready { OnOk result (IsReady remaining.now.nodes hops.number (legs_of remaining.now) self.new) }
+    {
+        if self.judged.len() < MOST_KEPT && remaining.pairs(node) <= MOST_KEPT_PAIRS {
+            let measure = self.judge(alloc, remaining, node, hops)?;
+            return Ok(measure);
+        }
+        let list = &mut self.spare;
+        self.searches
+            .measure(alloc, remaining, list, node, hops, most)
     }
 
     /// Judges a node, and keeps its shortcuts. Returns their number, and the number of legs that touch the
@@ -66,7 +102,9 @@ impl Room {
             self.lists.push(Vec::new(alloc))?;
         }
         let list = &mut self.lists[place];
-        let measure = self.searches.measure(alloc, remaining, list, node, hops)?;
+        let measure = self
+            .searches
+            .measure(alloc, remaining, list, node, hops, u64::MAX)?;
         self.judged.push(node)?;
         Ok(measure)
     }

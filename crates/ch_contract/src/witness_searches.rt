@@ -1,8 +1,9 @@
 //! The searches of one worker, over words or over pairs.
-ghost use Rattle.std.specs.Prelude.{◌<◌, IfOk, OnOk};
+ghost use Rattle.std.specs.Prelude.{◌≡◌, ◌<◌, length, IfOk, OnOk};
 ghost use Rattle.ch_contract.specs.Contraction.{AreShortcuts};
-ghost use Rattle.ch_contract.specs.Measures.{IsMeasure};
+ghost use Rattle.ch_contract.specs.Measures.{IsMeasureUpTo};
 ghost use Rattle.ch_contract.specs.Remaining.{legs_of};
+ghost use Rattle.ch_contract.specs.ShortcutLists.{AreUpTo};
 
 use crate::held_cost::Word;
 use crate::hop_bound::HopBound;
@@ -36,7 +37,7 @@ impl WitnessSearches {
     }
 
     /// Returns the number of shortcuts of `v` and the number of legs that touch it. `list` becomes the list of
-    /// its shortcuts.
+    /// its shortcuts. If they are more than `most`, more than `most` of them are counted, and they are not all in the list.
     pub(crate) fn measure(
         &mut self,
         alloc: Global,
@@ -44,18 +45,20 @@ impl WitnessSearches {
         list: &mut Vec<Shortcut>,
         v: u32,
         hops: HopBound,
+        most: u64,
     ) -> Result<Measure, AllocError>
         requires node { v < remaining.now.nodes }
         requires idle { AreIdle self.old }
-        ensures measure { IfOk result (IsMeasure remaining.now.nodes hops.number (legs_of remaining.now) v) }
-        ensures list { OnOk result (AreShortcuts remaining.now.nodes hops.number (legs_of remaining.now) v list.new.items) }
+        ensures measure { IfOk result (IsMeasureUpTo most remaining.now.nodes hops.number (legs_of remaining.now) v) }
+        ensures count { IfOk result (λ m. m.shortcuts ≡ length list.new.items) }
+        ensures list { OnOk result (AreUpTo most (AreShortcuts remaining.now.nodes hops.number (legs_of remaining.now) v) list.new.items) }
         ensures idle { OnOk result (AreIdle self.new) }
     {
         if remaining.is_light() {
             self.words.fit(alloc, remaining.nodes())?;
-            return remaining.measure_in(&mut self.words, list, v, hops);
+            return remaining.measure_in(&mut self.words, list, v, hops, most);
         }
         self.pairs.fit(alloc, remaining.nodes())?;
-        remaining.measure_in(&mut self.pairs, list, v, hops)
+        remaining.measure_in(&mut self.pairs, list, v, hops, most)
     }
 }

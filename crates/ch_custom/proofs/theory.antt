@@ -18,3 +18,8 @@ pub mod Triangles
 pub mod Ancestors
 pub mod Numbering
 pub mod Pruned
+pub mod ExactLegs
+pub mod ExactRows
+pub mod Exact
+pub mod Left
+pub mod PrunedRows

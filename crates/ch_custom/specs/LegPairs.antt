@@ -8,7 +8,7 @@ use Rattle.ch_hierarchy.specs.Rows.{IsRow}
 use Rattle.ch_hierarchy.specs.Side.{other}
 use Rattle.ch_custom.specs.declared.leg_pair.Held.{Held}
 use Rattle.ch_custom.specs.declared.leg_pair.LegPair.{LegPair}
-use Rattle.ch_custom.specs.declared.leg_pair.TheConstants.{NO_MIDDLE}
+use Rattle.ch_custom.specs.declared.leg_pair.TheConstants.{NO_MIDDLE, BEATEN}
 use Rattle.ch_custom.specs.Customizing.{leg_over}
 use Rattle.ch_custom.specs.Metric.{held_leg, IsHeld, AreLoweredOver}
 use Rattle.ch_custom.specs.Topologies.{AreRelaxed}
@@ -37,14 +37,25 @@ rows_at side rows = map (row_of side) rows
 abbrev pub pairs_row : List (List LegPair) → ℕ → List LegPair
 pairs_row rows v = slice_index_or rows v []
 
+-- no leg
+abbrev pub held_none : Held
+held_none = record { weight = MOST_WEIGHT + 1; arcs = 0; middle = NO_MIDDLE }
+
 -- the pair with this higher node, without a leg
 abbrev pub no_pair : ℕ → LegPair
-no_pair node = record {
-  node = node;
-  up = record { weight = MOST_WEIGHT + 1; arcs = 0; middle = NO_MIDDLE };
-  down =
-      record { weight = MOST_WEIGHT + 1; arcs = 0; middle = NO_MIDDLE };
-}
+no_pair node = record { node = node; up = held_none; down = held_none }
+
+-- the pair with its legs in the other directions
+abbrev pub turned_pair : LegPair → LegPair
+turned_pair p = record { node = p.node; up = p.down; down = p.up }
+
+-- a leg, or none if it is beaten
+abbrev pub unbeaten_held : Held → Held
+unbeaten_held h = if h.middle == BEATEN then held_none else h
+
+-- the pair without the legs that are beaten
+abbrev pub unbeaten_pair : LegPair → LegPair
+unbeaten_pair p = record { node = p.node; up = unbeaten_held p.up; down = unbeaten_held p.down }
 
 -- the pair with an arc of this weight in a direction if it is at `node` and lighter
 abbrev pub lightened_pair : Side → ℕ → ℕ → LegPair → LegPair

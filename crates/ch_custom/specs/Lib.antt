@@ -1,6 +1,7 @@
 -- The definitions of customization: lowered legs, topologies, and legs over a topology.
 pub mod Ancestors
 pub mod Customizing
+pub mod Exact
 pub mod LegPairs
 pub mod Metric
 pub mod Numbering

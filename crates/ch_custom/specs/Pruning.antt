@@ -1,14 +1,23 @@
 -- Exact pruning: legs that another way strictly beats go, but for those that are arcs.
-use Rattle.std.specs.Prelude.{◌≡◌, ◌≢◌, ℕ, ◌<◌, ◌⊎◌, Contains, Option, None, slice_index}
+use Rattle.std.specs.Prelude.{◌≡◌, ◌≢◌, ℕ, ◌<◌, ◌≤◌, ◌⊎◌, List, [], length, map, Contains, Option, Some, None, slice_index, slice_index_or}
+use Rattle.std.specs.Prelude.{slice_set}
 use Rattle.ch_graph.specs.declared.arc.InArc.{InArc}
 use Rattle.ch_graph.specs.declared.cost.Cost.{Cost}
-use Rattle.ch_graph.specs.Cost.{cost_sum}
+use Rattle.ch_graph.specs.Cost.{IsAtMost, cost_sum}
 use Rattle.ch_graph.specs.Graph.{Network, IsWithinLimits}
 use Rattle.ch_graph.specs.Walk.{IsLeast}
+use Rattle.ch_graph.specs.WalkLaws.{arc_cost}
 use Rattle.ch_hierarchy.specs.declared.leg.Leg.{Leg}
+use Rattle.ch_hierarchy.specs.declared.side.Side.{Side}
+use Rattle.ch_hierarchy.specs.declared.side.Side.TheVariants.{Up, Down}
 use Rattle.ch_hierarchy.specs.Rows.{row}
 use Rattle.ch_hierarchy.specs.Hierarchy.{LevelsAndLegs, IsLevelled}
 use Rattle.ch_hierarchy.specs.Kept.{IsLeg, HasLegWithin, IsKept}
+use Rattle.ch_contract.specs.Legs.{Label}
+use Rattle.ch_custom.specs.declared.leg_pair.LegPair.{LegPair}
+use Rattle.ch_custom.specs.Exact.{IsLeastAt, held, pair_at, taken_leg}
+use Rattle.ch_custom.specs.LegPairs.{lightened_pair, pairs_row}
+use Rattle.ch_custom.specs.Topologies.{IsCustomized}
 
 -- this is an arc of the graph
 abbrev pub IsArcLeg : Network → ℕ → ℕ → Cost → Option ℕ → Type 0
@@ -26,6 +35,58 @@ pub record IsPruned (g : Network) (H P : LevelsAndLegs) : Type 0 where
 -- a pruned hierarchy is right for each graph that the hierarchy is right for
 abbrev pub PrunedAreKept : Type 0
 PrunedAreKept = (g : Network) (H P : LevelsAndLegs) → IsWithinLimits g → IsKept g H → IsLevelled P → IsPruned g H P → IsKept g P
+
+-- this hierarchy, whose levels are these, is customized, and right for the graph
+pub record HasCustomized (g : Network) (order levels : List ℕ) : Type 0 where
+  pub hierarchy : LevelsAndLegs
+  pub level : hierarchy.level ≡ levels
+  pub customized : IsCustomized g order hierarchy
+  pub levelled : IsLevelled hierarchy
+  pub kept : IsKept g hierarchy
+
+-- P is what pruning leaves of the customized hierarchy. There is one such hierarchy: each node has at most one leg to and from
+-- another, and what IsPruned says of each pair of nodes leaves no choice
+pub record IsCustomizedAndPruned (g : Network) (order : List ℕ) (P : LevelsAndLegs) : Type 0 where
+  pub hierarchy : LevelsAndLegs
+  pub customized : IsCustomized g order hierarchy
+  pub whole : IsLevelled hierarchy
+  pub levelled : IsLevelled P
+  pub pruned : IsPruned g hierarchy P
+
+-- the arc is one from v to x, or in the other direction one from x to v
+abbrev pub IsArcAt : Side → ℕ → ℕ → InArc → Type 0
+IsArcAt Up v x a = (a.from ≡ v) × (a.to ≡ x)
+IsArcAt Down v x a = (a.from ≡ x) × (a.to ≡ v)
+
+-- the leg is such an arc of the graph
+abbrev pub IsArcLegAt : Network → Side → ℕ → ℕ → Label → Type 0
+IsArcLegAt g Up v x l = IsArcLeg g v x l.cost l.middle
+IsArcLegAt g Down v x l = IsArcLeg g x v l.cost l.middle
+
+-- what is left of the leg between v and x: `taken` if that costs the least of all walks, and no other but an arc. For each of
+-- these arcs it costs no more
+pub record IsLeft (g : Network) (arcs : List InArc) (side : Side) (v x : ℕ) (taken leg : Option Label) : Type 0 where
+  pub least : (l : Label) → taken ≡ Some l → IsLeastAt g side v x l.cost → leg ≡ Some l
+  pub others : (l : Label) → leg ≡ Some l → ((taken ≡ Some l) × IsLeastAt g side v x l.cost) ⊎ IsArcLegAt g side v x l
+  pub within : (a : InArc) → Contains arcs a → IsArcAt side v x a → (l : Label) × (leg ≡ Some l) × IsAtMost l.cost (arc_cost a)
+
+-- each row has a pair for each pair of the topology, with what is left of its legs
+pub record AreLeft (g : Network) (order : List ℕ) (rows : List (List ℕ)) (arcs : List InArc) (metric : List (List LegPair)) : Type 0 where
+  pub size : length metric ≡ g.nodes
+  pub ends : (i : ℕ) → i < g.nodes → map (λ p. p.node) (pairs_row metric (slice_index order i)) ≡ slice_index_or rows
+      (slice_index order i) []
+  pub each : (i : ℕ) → i < g.nodes → (side : Side) (k : ℕ) (d : LegPair) → k < length (pairs_row metric (slice_index order i)) →
+      IsLeft g arcs side (slice_index order i) (pair_at (pairs_row metric (slice_index order i)) k d).node
+      (taken_leg g order side i (pair_at (pairs_row metric (slice_index order i)) k d).node)
+      (held side (pair_at (pairs_row metric (slice_index order i)) k d))
+
+-- the arc is put into the row of its lower end
+abbrev pub IsArcPut : List ℕ → InArc → List (List LegPair) → List (List LegPair) → Type 0
+IsArcPut levels a old new =
+    ((slice_index levels a.from < slice_index levels a.to)
+    × (new ≡ slice_set old a.from (map (lightened_pair Up a.to a.weight) (pairs_row old a.from))))
+    ⊎ ((slice_index levels a.to ≤ slice_index levels a.from)
+    × (new ≡ slice_set old a.to (map (lightened_pair Down a.from a.weight) (pairs_row old a.to))))
 
 -- x is a node that is higher than v
 abbrev pub IsHigher : LevelsAndLegs → ℕ → ℕ → Type 0

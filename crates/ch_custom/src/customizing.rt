@@ -6,6 +6,7 @@ ghost use Rattle.ch_hierarchy.specs.declared.side.Side.TheVariants.{Up, Down};
 ghost use Rattle.ch_custom.specs.Customizing.{IsTopology};
 ghost use Rattle.ch_custom.specs.LegPairs.{no_pair, pairs_row, rows_at};
 ghost use Rattle.ch_custom.specs.Opening.{IsPut, is_live};
+ghost use Rattle.ch_custom.specs.Pruning.{IsArcPut};
 ghost use Rattle.ch_custom.specs.Topologies.{AreFor, AreMetricsAt, IsCustomized};
 
 use crate::leg_pair::LegPair;
@@ -49,10 +50,29 @@ fn customize_over(
     ensures hierarchy { IfOk result (IsCustomized graph.now order.now) }
     ensures kept { IfOk result (IsKept graph.now) }
 {
+    let metric = lowered(alloc, graph, order, levels, rows)?;
+    close(alloc, graph, order, levels, rows, &metric)
+}
+
+/// Returns the legs of the graph over these rows of a topology, lowered over all nodes.
+///
+/// # Errors
+/// `AllocError` if there is no memory for the legs.
+pub(crate) fn lowered(
+    alloc: Global,
+    graph: &Graph,
+    order: &[u32],
+    levels: &[u32],
+    rows: &Rows<u32>,
+) -> Result<Metric, AllocError>
+    requires ready { AreFor graph.now order.now rows.now }
+    requires levels { AreLevelsOf order.now levels.now }
+    ensures { IfOk result (λ m. AreMetricsAt graph.now order.now rows.now graph.now.nodes (rows_at Up m) (rows_at Down m)) }
+{
     let mut metric = Metric::open(alloc, rows)?;
     put_arcs(graph, order, levels, rows, &mut metric);
     lower_all(alloc, graph, order, rows, &mut metric)?;
-    close(alloc, graph, order, levels, rows, &metric)
+    Ok(metric)
 }
 
 /// Returns the hierarchy of the legs in these arrays.
@@ -115,10 +135,11 @@ fn put_arcs(graph: &Graph, order: &[u32], levels: &[u32], rows: &Rows<u32>, metr
 }
 
 /// Puts one arc into the row of its lower end.
-fn put_arc(levels: &[u32], arc: InArc, metric: &mut Metric)
+pub(crate) fn put_arc(levels: &[u32], arc: InArc, metric: &mut Metric)
     requires levels { (arc.from < length levels.now) × (arc.to < length levels.now) }
     requires metric { length metric.old ≡ length levels.now }
-    ensures { IsPut levels.now arc (rows_at Up metric.old) (rows_at Down metric.old) (rows_at Up metric.new) (rows_at Down metric.new) }
+    ensures pairs { IsArcPut levels.now arc metric.old metric.new }
+    ensures legs { IsPut levels.now arc (rows_at Up metric.old) (rows_at Down metric.old) (rows_at Up metric.new) (rows_at Down metric.new) }
 {
     if levels[arc.from as usize] < levels[arc.to as usize] {
         metric.lighten(arc.from, Side::Up, arc.to, arc.weight);

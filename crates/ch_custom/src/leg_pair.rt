@@ -1,6 +1,7 @@
 //! The legs between the two nodes of a pair of a topology, in both directions.
 ghost use Rattle.std.specs.Prelude.{◌≡◌};
-ghost use Rattle.ch_custom.specs.LegPairs.{leg_at as leg_of_held, leg_of, no_pair, lightened_pair};
+ghost use Rattle.ch_custom.specs.LegPairs.{leg_at as leg_of_held, leg_of, held_none, no_pair, lightened_pair};
+ghost use Rattle.ch_custom.specs.LegPairs.{turned_pair, unbeaten_held, unbeaten_pair};
 
 use ch_graph::Cost;
 use ch_graph::limits::MOST_WEIGHT;
@@ -8,6 +9,9 @@ use ch_hierarchy::{Leg, Side};
 
 /// The middle of a leg that is an arc.
 pub const NO_MIDDLE: u32 = u32::MAX;
+
+/// The middle of a leg that is dearer than another way between its ends, and has the cost of that way.
+pub const BEATEN: u32 = u32::MAX - 1;
 
 /// A leg in one direction, in 16 bytes. One that weighs more than [`MOST_WEIGHT`] stands for no leg.
 #[derive(Clone, Copy)]
@@ -36,15 +40,10 @@ impl LegPair {
     pub(crate) fn none(node: u32) -> LegPair
         ensures { result ≡ no_pair node }
     {
-        let none = Held {
-            weight: MOST_WEIGHT + 1,
-            arcs: 0,
-            middle: NO_MIDDLE,
-        };
         LegPair {
             node,
-            up: none,
-            down: none,
+            up: no_leg(),
+            down: no_leg(),
         }
     }
 
@@ -55,6 +54,29 @@ impl LegPair {
         match side {
             Side::Up => leg_at(self.node, self.up),
             Side::Down => leg_at(self.node, self.down),
+        }
+    }
+
+    /// The pair as the higher node sees it: with its legs in the other directions.
+    #[inline]
+    pub(crate) fn turned(self) -> LegPair
+        ensures { result ≡ turned_pair self }
+    {
+        LegPair {
+            node: self.node,
+            up: self.down,
+            down: self.up,
+        }
+    }
+
+    /// The pair without the legs that are [`BEATEN`].
+    pub(crate) fn unbeaten(self) -> LegPair
+        ensures { result ≡ unbeaten_pair self }
+    {
+        LegPair {
+            node: self.node,
+            up: unbeaten(self.up),
+            down: unbeaten(self.down),
         }
     }
 
@@ -92,6 +114,28 @@ impl LegPair {
                 }
             }
         }
+    }
+}
+
+/// No leg.
+fn no_leg() -> Held
+    ensures { result ≡ held_none }
+{
+    Held {
+        weight: MOST_WEIGHT + 1,
+        arcs: 0,
+        middle: NO_MIDDLE,
+    }
+}
+
+/// The leg, or none if it is [`BEATEN`].
+fn unbeaten(held: Held) -> Held
+    ensures { result ≡ unbeaten_held held }
+{
+    if held.middle == BEATEN {
+        no_leg()
+    } else {
+        held
     }
 }
 

@@ -6,14 +6,17 @@
 #![tactic(auto)]
 
 mod customizing;
+mod exact;
 pub mod laws;
 mod leg_pair;
 mod lowering;
 mod metric;
 mod numbering;
 mod pairs;
+mod pruning;
 mod topology;
 
 pub use customizing::customize;
 pub use numbering::{Renumbered, renumber};
+pub use pruning::customize_and_prune;
 pub use topology::{TRIANGLES_A_NODE, Topology, TopologyError, topology_of};

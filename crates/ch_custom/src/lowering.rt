@@ -2,6 +2,7 @@
 ghost use Rattle.std.specs.Prelude.{◌≡◌, ℕ, ◌+◌, ◌<◌, ◌≤◌, All, length, slice_index_or};
 ghost use Rattle.ch_hierarchy.specs.declared.side.Side.{Side as AnySide};
 ghost use Rattle.ch_custom.specs.declared.leg_pair.LegPair.{LegPair as AnyPair};
+ghost use Rattle.ch_custom.specs.declared.leg_pair.TheConstants.{NO_MIDDLE};
 ghost use Rattle.ch_graph.specs.declared.limits.TheConstants.{MOST_WEIGHT};
 ghost use Rattle.ch_custom.specs.Metric.{IsHeld};
 ghost use Rattle.ch_custom.specs.LegPairs.{leg_at, row_of, AreHeld, IsLowered, IsPairLowered, IsReady, ArePairsLowered};
@@ -10,10 +11,10 @@ use crate::leg_pair::{Held, LegPair};
 use ch_graph::Cost;
 use ch_graph::limits::MOST_WEIGHT;
 
-/// Lowers a leg to the sum of a leg to `middle` and a leg from it, if that is within the limits and cheaper.
+/// Lowers a leg to the sum of two legs, if that is within the limits and cheaper. Then `middle` becomes its middle.
 #[inline]
-fn lower(nodes: u32, middle: u32, first: Held, second: Held, leg: &mut Held)
-    requires middle { middle < nodes }
+pub(crate) fn lower(nodes: u32, middle: u32, first: Held, second: Held, leg: &mut Held)
+    requires middle { middle < NO_MIDDLE }
     requires first { first.weight ≤ MOST_WEIGHT + 1 }
     requires second { second.weight ≤ MOST_WEIGHT + 1 }
     requires leg { IsHeld (leg_at 0 leg.old) }
@@ -53,7 +54,7 @@ fn lower_pair(nodes: u32, middle: u32, one: &LegPair, other: &LegPair, pair: &mu
 
 /// Returns the first place from `from` on whose pair has at least this node, or the length of the row.
 #[inline]
-fn first_from(row: &[LegPair], from: usize, node: u32) -> usize
+pub(crate) fn first_from(row: &[LegPair], from: usize, node: u32) -> usize
     requires from { from ≤ length row.now }
     ensures later { from ≤ result }
     ensures within { result ≤ length row.now }

@@ -5,7 +5,7 @@ ghost use Rattle.ch_hierarchy.specs.declared.side.Side.{Side as AnySide};
 ghost use Rattle.ch_custom.specs.declared.leg_pair.LegPair.{LegPair as AnyPair};
 ghost use Rattle.ch_custom.specs.Opening.{is_live as has_leg};
 ghost use Rattle.ch_custom.specs.Metric.{IsHeld};
-ghost use Rattle.ch_custom.specs.LegPairs.{no_pair, lightened_pair, pairs_row, row_of};
+ghost use Rattle.ch_custom.specs.LegPairs.{no_pair, unbeaten_pair, lightened_pair, pairs_row, row_of};
 ghost use Rattle.ch_custom.specs.LegPairs.{rows_at, AreHeld, IsReady, ArePairsLowered, ArePairsRelaxed};
 
 use crate::leg_pair::LegPair;
@@ -77,6 +77,24 @@ impl Metric {
     {
         copy.clear();
         copy.extend_from_slice(self.row(node))
+    }
+
+    /// Writes the pairs of one node.
+    pub(crate) fn put_row(&mut self, node: u32, row: &[LegPair])
+        requires node { node < length self.old }
+        requires size { length row.now ≡ length (pairs_row self.old node) }
+        ensures { self.new ≡ slice_set self.old node row.now }
+    {
+        let start = self.starts[node as usize];
+        let end = self.starts[node as usize + 1];
+        write_row(&mut self.pairs[start..end], row);
+    }
+
+    /// Takes out the legs that are beaten.
+    pub(crate) fn drop_beaten(&mut self)
+        ensures { self.new ≡ map (λ r. map unbeaten_pair r) self.old }
+    {
+        drop_beaten(&mut self.pairs);
     }
 
     /// Puts in an arc of this weight between a node and `other`, if it is lighter than the leg there.
@@ -198,6 +216,23 @@ fn lighten_row(row: &mut [LegPair], side: Side, other: u32, weight: u64)
 {
     for place in 0..row.len() {
         row[place] = row[place].lightened(side, other, weight);
+    }
+}
+
+/// Writes these pairs in place of as many others.
+fn write_row(target: &mut [LegPair], row: &[LegPair])
+    requires { length row.now ≡ length target.old }
+    ensures { target.new ≡ row.now }
+{
+    target.copy_from_slice(row);
+}
+
+/// Takes out the legs that are beaten.
+fn drop_beaten(row: &mut [LegPair])
+    ensures { row.new ≡ map unbeaten_pair row.old }
+{
+    for place in 0..row.len() {
+        row[place] = row[place].unbeaten();
     }
 }
 

@@ -102,6 +102,7 @@ pub fn topology_of(
     ensures least { IfOk result (λ f. AreNeeded graph.now f.order f.pairs) }
     ensures triangles { IfOk result (λ f. triangles_over f.pairs f.order ≤ most) }
     ensures exceeded { result ≡ Err TopologyError.Triangles → AllHaveMore graph.now order.now most }
+    ensures each { result ≡ Err TopologyError.Triangles → IsOrderOf graph.now.nodes order.now }
     ensures refused { result ≡ Err TopologyError.Order → IsOrderOf graph.now.nodes order.now → ⊥ }
 {
     let Some(levels) = levels_of(alloc, graph.nodes(), order)? else {

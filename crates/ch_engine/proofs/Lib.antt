@@ -18,6 +18,9 @@ mod SeenLines
 pub mod NearRows
 mod MeetingTrees
 mod PathTrees
+mod SumMeets
+mod SumTrees
+mod TableSums
 mod TreeSums
 mod Ways
 mod WhichHierarchy

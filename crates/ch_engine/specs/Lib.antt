@@ -12,3 +12,4 @@ pub mod Opened
 pub mod PathTrees
 pub mod Flows
 pub mod Topologies
+pub mod TableSums

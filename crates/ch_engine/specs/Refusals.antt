@@ -147,6 +147,21 @@ IsRefusalOfPairSums n lines sources targets values weights sums Refusal.Lengths 
 IsRefusalOfPairSums n lines sources targets values weights sums Refusal.TooLarge = ⊥
 IsRefusalOfPairSums n lines sources targets values weights sums Refusal.NoPlaces = ⊥
 
+-- arrays of these lengths fit a table of sums: a place for each cell, and a value for each line
+abbrev pub AreTableSumLengths : ℕ → ℕ → ℕ → ℕ → ℕ → ℕ → Type 0
+AreTableSumLengths sources targets weights sums values lines = (weights ≡ sources * targets) × (sums ≡ sources * targets)
+    × (values ≡ lines)
+
+-- the reason for refusing a table of sums, in the same order
+abbrev pub IsRefusalOfTableSums : ℕ → ℕ → List ℕ → List ℕ → ℕ → ℕ → ℕ → Refusal → Type 0
+IsRefusalOfTableSums n lines sources targets values weights sums Refusal.NoMemory = ⊥
+IsRefusalOfTableSums n lines sources targets values weights sums Refusal.NodeRange =
+    AreTableSumLengths (length sources) (length targets) weights sums values lines × (AreNodes n sources × AreNodes n targets → ⊥)
+IsRefusalOfTableSums n lines sources targets values weights sums Refusal.Lengths =
+    AreTableSumLengths (length sources) (length targets) weights sums values lines → ⊥
+IsRefusalOfTableSums n lines sources targets values weights sums Refusal.TooLarge = ⊥
+IsRefusalOfTableSums n lines sources targets values weights sums Refusal.NoPlaces = ⊥
+
 -- arrays of these lengths fit so many pairs, and there is a flow for each line
 abbrev pub AreFlowLengths : ℕ → ℕ → ℕ → ℕ → ℕ → Type 0
 AreFlowLengths sources targets demands flows lines = (targets ≡ sources) × (demands ≡ sources) × (flows ≡ lines)

@@ -20,6 +20,7 @@ use ch_near::KeptTargets;
 use ch_query::{Route, Scratch, distance, route};
 use ch_table::table_alone;
 use ch_text::save_text;
+use ch_tree::TreeScratch;
 use std::alloc::{AllocError, Global};
 use std::marker::Model;
 use std::sync::Arc;
@@ -31,6 +32,8 @@ use std::sync::Arc;
 pub struct Engine {
     pub(crate) network: Arc<Network, Global>,
     pub(crate) scratch: Scratch,
+    /// Scratch space for distances by the network's tree, if it has one.
+    by_tree: Option<TreeScratch>,
     /// The places of near rows, if some are kept.
     pub(crate) kept: Option<KeptTargets>,
     /// The number of these places.
@@ -51,7 +54,7 @@ impl Model for Engine {
 
     ghost view = { λ engine. record { hierarchy = (arc_value engine.network).0; lines = (arc_value engine.network).1; near = option_map asked_by engine.kept } };
 
-    ghost invariant = { λ engine. (engine.scratch ≡ nodes_of (arc_value engine.network).0) × MatchOption engine.kept ⊤ (AreKeptIn (arc_value engine.network).0) × MatchOption engine.kept ⊤ (λ kept. engine.places ≡ length (asked_by kept).targets) × MatchOption engine.sums ⊤ (AreKeptSums (arc_value engine.network).0 (arc_value engine.network).1) };
+    ghost invariant = { λ engine. (engine.scratch ≡ nodes_of (arc_value engine.network).0) × MatchOption engine.by_tree ⊤ (λ scratch. scratch ≡ nodes_of (arc_value engine.network).0) × MatchOption engine.kept ⊤ (AreKeptIn (arc_value engine.network).0) × MatchOption engine.kept ⊤ (λ kept. engine.places ≡ length (asked_by kept).targets) × MatchOption engine.sums ⊤ (AreKeptSums (arc_value engine.network).0 (arc_value engine.network).1) };
 }
 
 impl Engine {
@@ -128,10 +131,12 @@ impl Engine {
     {
         let nodes = network.hierarchy().nodes();
         let scratch = Scratch::new(alloc, nodes)?;
+        let by_tree = network.tree_scratch(alloc)?;
         let network = Arc::new(alloc, network)?;
         Ok(for_any_thread(Engine {
             network,
             scratch,
+            by_tree,
             kept: None,
             places: 0,
             sums: None,
@@ -147,9 +152,11 @@ impl Engine {
     {
         let network = Arc::try_clone(&self.network)?;
         let scratch = Scratch::new(alloc, network.hierarchy().nodes())?;
+        let by_tree = network.tree_scratch(alloc)?;
         Ok(Engine {
             network,
             scratch,
+            by_tree,
             kept: None,
             places: 0,
             sums: None,
@@ -219,7 +226,13 @@ impl Engine {
         ensures cell { IsCell self.old.hierarchy None source target result }
         ensures same { self.new ≡ self.old }
     {
-        let answer = distance(self.network.hierarchy(), &mut self.scratch, source, target);
+        let hierarchy = self.network.hierarchy();
+        let answer = match (self.network.tree(), &mut self.by_tree) {
+            (Some(tree), Some(by_tree)) => {
+                ch_tree::distance(hierarchy, tree, by_tree, source, target)
+            }
+            _ => distance(hierarchy, &mut self.scratch, source, target),
+        };
         word_of(answer)
     }
 

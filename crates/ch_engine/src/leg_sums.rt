@@ -31,7 +31,7 @@ pub(crate) struct LegSums {
 /// The values of all lines, and the sums along all legs for them.
 #[derive(Drop)]
 pub(crate) struct KeptSums {
-    values: Vec<u64>,
+    pub(crate) values: Vec<u64>,
     pub(crate) sums: LegSums,
 }
 
@@ -54,7 +54,7 @@ impl LegSums {
     }
 
     /// Returns the word of the leg of a node to or from another one, or [`UNKNOWN`] if there is none.
-    fn word_at(&self, hierarchy: &Hierarchy, side: Side, node: u32, other: u32) -> u64
+    pub(crate) fn word_at(&self, hierarchy: &Hierarchy, side: Side, node: u32, other: u32) -> u64
         requires node { node < nodes_of hierarchy.now }
         ensures { (lines : Lines) (values : List ℕ) → AreLegSums hierarchy.now lines values self.now → result ≢ unknown → (leg : AnyLeg) × Contains (the_row_of (rows_of hierarchy.now side) node) leg × (leg.node ≡ other) × IsRowLegSum side hierarchy.now lines values node leg result }
     {

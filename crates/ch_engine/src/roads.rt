@@ -15,8 +15,10 @@ use ch_custom::{TRIANGLES_A_NODE, Topology, TopologyError as NoTopology, customi
 use ch_dissect::dissect_alone;
 use ch_graph::{Graph, InArc};
 use ch_read::{ReadError, read_saved};
+use ch_tree::tree_of;
 use std::alloc::{AllocError, Global};
 use std::marker::Model;
+use std::sync::Arc;
 
 /// The ends of arcs, in the order of their lines, with a topology that serves all weights.
 #[derive(Drop)]
@@ -25,16 +27,20 @@ pub struct Roads {
     tails: Vec<u32>,
     heads: Vec<u32>,
     topology: Topology,
+    /// The tree of the topology, which the networks of all weights share.
+    tree: Arc<Vec<u32>, Global>,
 }
 
 impl Model for Roads {
+    ghost use Rattle.std.specs.Arc.{arc_value};
+    ghost use Rattle.ch_tree.specs.Parents.{IsTreeOf};
     ghost use Rattle.ch_engine.specs.Topologies.{EndsAndPairs, IsForAllWeights};
 
     ghost Value = { EndsAndPairs };
 
     ghost view = { λ r. record { nodes = r.nodes; tails = r.tails.items; heads = r.heads.items; order = r.topology.order; pairs = r.topology.pairs } };
 
-    ghost invariant = { λ r. IsForAllWeights (record { nodes = r.nodes; tails = r.tails.items; heads = r.heads.items; order = r.topology.order; pairs = r.topology.pairs }) };
+    ghost invariant = { λ r. IsForAllWeights (record { nodes = r.nodes; tails = r.tails.items; heads = r.heads.items; order = r.topology.order; pairs = r.topology.pairs }) × IsTreeOf r.topology (arc_value r.tree).items };
 }
 
 impl Roads {
@@ -74,11 +80,14 @@ impl Roads {
     {
         let tails = tails_of(alloc, graph.arcs())?;
         let heads = heads_of(alloc, graph.arcs())?;
+        let parents = tree_of(alloc, &topology)?;
+        let tree = Arc::new(alloc, parents)?;
         Ok(Roads {
             nodes: graph.nodes(),
             tails,
             heads,
             topology,
+            tree,
         })
     }
 
@@ -97,8 +106,11 @@ impl Roads {
         // This call tells the proof that the graph keeps the limits.
         let _limits = graph.nodes();
         let hierarchy = customize(alloc, &self.topology, &graph)?;
+        // This call tells the proof that the hierarchy has levels.
+        let _levelled = hierarchy.nodes();
         let lined = Network::of(alloc, &graph, hierarchy)?;
-        Ok(lined)
+        let tree = Arc::try_clone(&self.tree)?;
+        Ok(lined.with_tree(tree))
     }
 
     /// The nodes in order.

@@ -10,6 +10,7 @@ ghost use Rattle.ch_engine.specs.RouteSums.{AreLinesAlong, ArePairSumsWritten, I
 
 use crate::engine::Engine;
 use crate::fault::Refusal;
+use crate::leg_sums::KeptSums;
 use crate::network::Network;
 use crate::route_trees::{BothTrees, different, in_order};
 use crate::routes::weight_of;
@@ -103,8 +104,8 @@ impl Engine {
         }
     }
 
-    /// Returns the trees of all pairs, if there are so many pairs that the sums along all legs are worth their time,
-    /// so many for each tree, and memory for them.
+    /// Returns the trees of all pairs, if the sums along all legs are kept or there are so many pairs that these are worth
+    /// their time, if there are so many pairs for each tree, and memory for them.
     fn trees_for(
         &mut self,
         alloc: Global,
@@ -115,7 +116,7 @@ impl Engine {
         ensures trees { MatchOption result ⊤ (AreBothTrees self.old.hierarchy self.old.lines values.now) }
         ensures same { self.new ≡ self.old }
     {
-        if sources.len() < self.network.count() / WORTH {
+        if sources.len() < PAIRS {
             return None;
         }
         let Ok(starts) = in_order(alloc, sources) else {
@@ -125,6 +126,9 @@ impl Engine {
             return None;
         };
         if sources.len() / PAIRS < different(&starts).saturating_add(different(&ends)) {
+            return None;
+        }
+        if sources.len() < self.network.count() / WORTH && !are_kept(&self.sums, values) {
             return None;
         }
         let Ok(()) = self.network.keep_sums(alloc, &mut self.sums, values) else {
@@ -145,7 +149,7 @@ impl Engine {
 
 impl Network {
     /// Returns the sum of the values on the lines of a route's arcs, or `None` if it is 2^64 or more.
-    fn sum_along(&self, answer: &Option<Route>, values: &[u64]) -> Option<u64>
+    pub(crate) fn sum_along(&self, answer: &Option<Route>, values: &[u64]) -> Option<u64>
         requires kept { IsOfSome self.now.0 self.now.1 }
         requires route { IsOfSomePair self.now.0 answer.now }
         requires values { length values.now ≡ self.now.1.count }
@@ -182,6 +186,14 @@ impl Network {
     }
 }
 
+/// Whether the sums along all legs are kept for these values.
+fn are_kept(kept: &Option<KeptSums>, values: &[u64]) -> bool {
+    match kept {
+        Some(kept) => kept.values.as_slice() == values,
+        None => false,
+    }
+}
+
 /// Returns the weight of the route of a pair and the sum along it, if there are trees that have it.
 fn sum_by(trees: &Option<BothTrees>, source: u32, target: u32) -> Option<(u64, u64)>
     ensures { (H : LevelsAndLegs) (lines : AnyLines) (values : List ℕ) → MatchOption trees.now ⊤ (AreBothTrees H lines values) → MatchOption result ⊤ (IsRouteSum H lines values source target) }
@@ -194,7 +206,7 @@ fn sum_by(trees: &Option<BothTrees>, source: u32, target: u32) -> Option<(u64, u
 
 /// Writes the weight and the sum of a pair at its place.
 #[inline]
-fn write_pair(place: usize, weight: u64, sum: u64, weights: &mut [u64], sums: &mut [u64])
+pub(crate) fn write_pair(place: usize, weight: u64, sum: u64, weights: &mut [u64], sums: &mut [u64])
     requires { (place < length weights.old) × (place < length sums.old) }
     ensures weights { weights.new ≡ slice_set weights.old place weight }
     ensures sums { sums.new ≡ slice_set sums.old place sum }

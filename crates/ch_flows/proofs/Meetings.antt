@@ -31,7 +31,7 @@ use Rattle.ch_flows.proofs.TreeWays.{down_way, up_way}
 use Rattle.ch_flows.proofs.WaysByLegs.{way_joined, way_none}
 
 -- in a list in order each node has one entry
-one_entry : (entries : List (ℕ × Cost)) → AreInOrder entries → (i j : ℕ) → i < length entries → j < length entries →
+pub one_entry : (entries : List (ℕ × Cost)) → AreInOrder entries → (i j : ℕ) → i < length entries → j < length entries →
     (entry_at entries i).0 ≡ (entry_at entries j).0 → i ≡ j
 one_entry entries order i j low below same = elim (cases_lt i j) [
   | inl less ↦ absurd (let rise = order i j (0, no_cost) less below in omega (arith, rise, same))

@@ -1,5 +1,5 @@
 //! Trees of least paths from a node to higher ones, with the places of the legs that they take.
-ghost use Rattle.std.specs.Prelude.{◌≡◌, ◌≢◌, ◌↔◌, ◌+◌, ◌*◌, ◌<◌, ℕ, List, None, length, IsTrue, IfOk, MatchOption};
+ghost use Rattle.std.specs.Prelude.{◌≡◌, ◌≢◌, ◌↔◌, ◌+◌, ◌*◌, ◌<◌, ⊤, ℕ, List, None, length, IsTrue, IfOk, MatchOption};
 ghost use Rattle.ch_graph.specs.Cost.{IsBelow, cost_sum};
 ghost use Rattle.ch_hierarchy.specs.Side.{other, rows_of};
 ghost use Rattle.ch_query.specs.Search.{IsStalled};
@@ -36,7 +36,15 @@ pub(crate) struct Tree {
     steps: Vec<Option<Step>>,
     /// The entries but those to which a leg back shows a way that costs less. A route meets at none of these.
     pub(crate) kept: Vec<(u32, Cost)>,
+    /// The place of the source's entry.
+    home: usize,
+    /// Where the entry of a node that is kept may be, by the node's number modulo the length. It mostly is there, which
+    /// saves a binary search.
+    hints: Vec<usize>,
 }
+
+/// Hints for each entry that is kept. With more of them, fewer entries share one.
+const HINTS: usize = 4;
 
 impl Tree {
     /// Finds the tree of a source. It takes steps for each node that the source reaches, and for each leg of these.
@@ -78,11 +86,15 @@ impl Tree {
             steps.as_mut_slice(),
         );
         let kept = kept_of(alloc, hierarchy, side, &entries, places)?;
+        let home = place_of(&entries, places, source).unwrap_or(0);
+        let hints = hints_of(alloc, &entries, &kept)?;
         Ok(Tree {
             source,
             entries,
             steps,
             kept,
+            home,
+            hints,
         })
     }
 
@@ -90,23 +102,45 @@ impl Tree {
     pub(crate) fn push_way_of(&self, node: u32, places: &mut Vec<usize>) -> Result<bool, AllocError>
         ensures { IfOk result (λ known. IsTrue known → (side : AnySide) (H : LevelsAndLegs) (links : List AnyLink) → IsTree side H links self.now → IsWayBack side H links self.now.source node places.old.items places.new.items) }
     {
-        match search_place(&self.entries, node) {
+        match self.place(node) {
             Some(place) => self.push_way(place, places),
             None => Ok(false),
         }
+    }
+
+    /// Whether the source's entry is where it should be.
+    fn has_home(&self) -> bool
+        ensures { IsTrue result → (self.now.home < length self.now.entries.items) × ((entry_at self.now.entries.items self.now.home).0 ≡ self.now.source) }
+    {
+        self.home < self.entries.len() && self.entries[self.home].0 == self.source
+    }
+
+    /// Returns the place of the entry of a node, if there is one. Mostly it is where the hint says.
+    fn place(&self, node: u32) -> Option<usize>
+        ensures { MatchOption result ⊤ (λ k. (k < length self.now.entries.items) × ((entry_at self.now.entries.items k).0 ≡ node)) }
+    {
+        let hint = hint_at(&self.hints, node);
+        if hint < self.entries.len() && self.entries[hint].0 == node {
+            return Some(hint);
+        }
+        search_place(&self.entries, node)
     }
 
     /// Appends the places of the legs on the way between an entry and the source, and says whether the way is known.
     pub(crate) fn push_way(&self, place: usize, places: &mut Vec<usize>) -> Result<bool, AllocError>
         ensures { IfOk result (λ known. IsTrue known → (side : AnySide) (H : LevelsAndLegs) (links : List AnyLink) → IsTree side H links self.now → IsWayBack side H links self.now.source (entry_at self.now.entries.items place).0 places.old.items places.new.items) }
     {
+        if !self.has_home() {
+            return Ok(false);
+        }
+        let home = self.home;
         let mut at = place;
         for _ in 0..self.entries.len() {
-            if at >= self.entries.len() || at >= self.steps.len() {
-                return Ok(false);
-            }
-            if self.entries[at].0 == self.source {
+            if at == home {
                 return Ok(true);
+            }
+            if at >= self.steps.len() {
+                return Ok(false);
             }
             let Some(step) = self.steps[at] else {
                 return Ok(false);
@@ -154,6 +188,43 @@ fn search_place(entries: &[(u32, Cost)], node: u32) -> Option<usize>
         Ok(place) => Some(place),
         Err(_) => None,
     }
+}
+
+/// Returns hints for the entries that are kept. Of entries that share one, the last has it.
+fn hints_of(
+    alloc: Global,
+    entries: &[(u32, Cost)],
+    kept: &[(u32, Cost)],
+) -> Result<Vec<usize>, AllocError> {
+    let mut hints = vec![in alloc; 0; kept.len().saturating_mul(HINTS)]?;
+    write_hints(entries, kept, hints.as_mut_slice());
+    Ok(hints)
+}
+
+/// Writes the place of each entry that is kept at its hint.
+fn write_hints(entries: &[(u32, Cost)], kept: &[(u32, Cost)], hints: &mut [usize])
+    ensures { length hints.new ≡ length hints.old }
+{
+    let mut next = 0;
+    for i in 0..entries.len() {
+        let node = entries[i].0;
+        if next >= kept.len() || kept[next].0 != node {
+            continue;
+        }
+        next += 1;
+        let slots = hints.len();
+        if slots > 0 {
+            hints[node as usize % slots] = i;
+        }
+    }
+}
+
+/// Returns where the entry of a node may be.
+fn hint_at(hints: &[usize], node: u32) -> usize {
+    if hints.is_empty() {
+        return 0;
+    }
+    hints[node as usize % hints.len()]
 }
 
 /// Returns the entries but those to which a leg back shows a way that costs less.

@@ -13,6 +13,8 @@ abbrev pub source_map : {F G : Type 0} → (F → G) → Source F → Source G
 source_map f Source.Built = Source.Built
 source_map f (Source.Saved file) = Source.Saved (f file)
 source_map f (Source.Like order fresh hops) = Source.Like (f order) fresh hops
+source_map f (Source.Customized order hops) = Source.Customized (f order) hops
+source_map f (Source.Dissected hops) = Source.Dissected hops
 
 -- the same sources of near rows, with f of their file
 abbrev pub sources_map : {F G : Type 0} → (F → G) → Sources F → Sources G

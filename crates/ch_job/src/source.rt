@@ -19,4 +19,17 @@ pub enum Source<S: Drop> {
         /// The most legs of a witness.
         hops: HopBound,
     },
+    /// The run reads an order after the graph, and customizes the hierarchy in this very order before it reads anything
+    /// else. The order is that of a saved hierarchy of a graph with as many nodes, with its legs or without.
+    Customized {
+        order: S,
+        /// The most legs of a witness, if the order has too many triangles and the hierarchy is built instead.
+        hops: HopBound,
+    },
+    /// The run finds a nested dissection order of the graph, and customizes the hierarchy in it before it reads anything
+    /// else.
+    Dissected {
+        /// The most legs of a witness, if the order has too many triangles and the hierarchy is built instead.
+        hops: HopBound,
+    },
 }

@@ -26,6 +26,11 @@ module _ {I : Type 0} (gives : I → List ℕ → Result ℕ DeviceFault → I �
     record { lines = reads.lines.reads.refused; nodes = reads.order; crowded = reads.crowded },
     (refl, record { same = cc; once = reads.lines.reads.once }, more),
   )
+  source-told graph (Source.Customized old hops) (Source.Customized new hops') reads same = (
+    record { lines = reads.lines.reads.refused; nodes = reads.order; crowded = reads.crowded },
+    (refl, record { same = cc; once = reads.lines.reads.once }, more),
+  )
+  source-told graph (Source.Dissected hops) new reads same = (tt, rw reads more)
   source-told graph _ _ reads same = absurd reads
 
   -- the same of a list of sources

@@ -15,8 +15,8 @@ use Rattle.ch_run.specs.declared.fault.RunFault.{RunFault}
 use Rattle.ch_run.specs.Ask.{IsOfAsk, ServesBy}
 use Rattle.ch_run.specs.DistRun.{HasQueriesRefused, IsAnsweredBy, IsOfDist}
 use Rattle.ch_run.specs.NearRun.{HasNearTargetsRefused, IsNearBy, IsOfNear, listed_in, sources_reading}
-use Rattle.ch_run.specs.Run.{Delivers, IsGraphRefused, IsWrite, NoFile, NoInput, OneInput, OrderFile, Reading, ReadingIf, ReadsOnce}
-use Rattle.ch_run.specs.Run.{SavedFile, SourceReading, WritesOnce, reading}
+use Rattle.ch_run.specs.Run.{CustomizedFile, Delivers, FoundOrder, IsGraphRefused, IsWrite, NoFile, NoInput, OneInput, OrderFile, Reading}
+use Rattle.ch_run.specs.Run.{ReadingIf, ReadsOnce, SavedFile, SourceReading, WritesOnce, reading}
 use Rattle.ch_run.specs.SaveRun.{IsOfSave, IsSavedBy}
 use Rattle.ch_run.specs.Source.{HasCheckRefused, HasCrowdedOrder, HasOrderRefused, HasSavedRefused, IsOfLoading, source_reading}
 use Rattle.ch_run.specs.Stories.{RunsAsk, RunsDist, RunsNear, RunsSave, RunsTable}
@@ -32,6 +32,8 @@ abbrev pub source_inputs : {I : Type 0} → Source I → List (Which × I)
 source_inputs Source.Built = []
 source_inputs (Source.Saved saved) = (Which.Saved, saved) ∷ []
 source_inputs (Source.Like order fresh hops) = (Which.Order, order) ∷ []
+source_inputs (Source.Customized order hops) = (Which.Order, order) ∷ []
+source_inputs (Source.Dissected hops) = []
 
 -- the inputs of a question, each with which input it is, in the order in which the run opens them
 abbrev pub question_inputs : {I : Type 0} → Question I → List (Which × I)
@@ -114,11 +116,19 @@ pub record RefusesOrder (graph order : Reading) (fresh hops : ℕ) (result : Res
   pub nodes : result ≡ Err RunFault.Order → HasOrderRefused graph order
   pub crowded : (node : ℕ) → result ≡ Err (RunFault.Crowded node) → HasCrowdedOrder graph order fresh hops node
 
+-- an order in which a hierarchy is customized is refused only for a fault of its lines, or if it does not have each node of the graph once
+pub record RefusesTopology (graph order : Reading) (result : Result Unit RunFault) : Type 0 where
+  pub lines : (fault : ReadFault) → result ≡ Err (RunFault.Read Which.Order fault) → HasSavedRefused graph order fault
+  pub nodes : result ≡ Err RunFault.Order → HasOrderRefused graph order
+  pub crowded : (node : ℕ) → result ≡ Err (RunFault.Crowded node) → ⊥
+
 -- the source of a hierarchy is refused only for a fault that it has
 abbrev pub RefusesSource : Reading → SourceReading → Result Unit RunFault → Type 0
 RefusesSource graph NoFile result = ⊤
 RefusesSource graph (SavedFile saved) result = RefusesHierarchy graph saved result
 RefusesSource graph (OrderFile order fresh hops) result = RefusesOrder graph order fresh hops result
+RefusesSource graph (CustomizedFile order hops) result = RefusesTopology graph order result
+RefusesSource graph (FoundOrder hops) result = ⊤
 
 -- the lists of a table are refused only for faults that they have
 pub record RefusesTable (graph : Reading) (source : SourceReading) (sources targets : Reading)

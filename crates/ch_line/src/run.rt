@@ -95,6 +95,12 @@ fn open_source<F: Files>(
             fresh: *fresh,
             hops: *hops,
         }),
+        Source::Customized { order, hops } => {
+            let order = open_input(files, order, Which::Order)?;
+            let hops = *hops;
+            Ok(Source::Customized { order, hops })
+        }
+        Source::Dissected { hops } => Ok(Source::Dissected { hops: *hops }),
     }
 }
 
@@ -197,8 +203,8 @@ fn close_source<F: Files>(files: &mut F, source: Source<F::Input>)
 {
     match source {
         Source::Saved(saved) => files.close(saved),
-        Source::Like { order, .. } => files.close(order),
-        Source::Built => {}
+        Source::Like { order, .. } | Source::Customized { order, .. } => files.close(order),
+        Source::Built | Source::Dissected { .. } => {}
     }
 }
 

@@ -14,18 +14,17 @@ use Rattle.ch_queue.specs.Queue.{key_of, IsLeastEntry, ComesFirst}
 use Rattle.ch_graph.specs.Graph.{Network}
 use Rattle.ch_hierarchy.specs.Rows.{row}
 use Rattle.ch_hierarchy.specs.declared.leg.Leg.{Leg}
-use Rattle.ch_contract.specs.declared.measure.OrderBy.{OrderBy}
 use Rattle.ch_order.specs.declared.construction.Construction.{Construction}
+use Rattle.ch_order.specs.declared.keys.Keys.{Keys}
 use Rattle.ch_contract.specs.Legs.{Label, Legs, SameLegs, AreLegsWithin, opening}
-use Rattle.ch_contract.specs.Contraction.{IsPriorityBy}
 use Rattle.ch_contract.specs.Order.{are_neighbours, IsContractedBefore}
 use Rattle.ch_contract.specs.LegRows.{AreLegsFrom, AreLegsTo}
 use Rattle.ch_hierarchy.specs.Hierarchy.{LevelsAndLegs}
 use Rattle.ch_contract.specs.Remaining.{RemainingLegs, legs_of}
-use Rattle.ch_order.specs.Progress.{IsNext, IsOpen, IsContraction, IsStep, AreAll}
+use Rattle.ch_order.specs.Progress.{IsKeyBy, IsNext, IsOpen, IsContraction, IsStep, AreAll}
 use Rattle.ch_contract.specs.Neighbours.{has_node, neighbours_in}
-use Rattle.ch_order.specs.Priorities.{AreRefreshed}
-use Rattle.ch_contract.specs.Measures.{IsPriorityIn, AreDeepened}
+use Rattle.ch_order.specs.Priorities.{AreRefreshed, IsKeyIn}
+use Rattle.ch_contract.specs.Measures.{AreDeepened}
 use Rattle.ch_order.specs.Construction.{progress_of, IsSized, IsTaken}
 use Rattle.ch_contract.proofs.theory.OneInTurn.{one_map}
 use Rattle.ch_contract.proofs.theory.Counts.{rows_touching, count_most}
@@ -118,11 +117,11 @@ taken_step h before v list taken keys t = record {
       (subst (λ l. AreDeepened l (slice_index before.depths.items v + 1) before.depths.items taken.depths.items) t.listed t.deeper);
 }
 
--- a step is made if a node is taken and its neighbours get their present priorities
-pub stepped : (by : OrderBy) (h : ℕ) (before : Construction) (v : ℕ) (list : List ℕ) (taken : Construction)
+-- a step is made if a node is taken and its neighbours get their present keys
+pub stepped : (by : Keys) (h : ℕ) (before : Construction) (v : ℕ) (list : List ℕ) (taken : Construction)
     (keys : List (Option ℤ)) → v < before.remaining.nodes → AreLegsWithin before.remaining.nodes (legs_of before.remaining) →
     IsSized before → IsTaken h before v list taken →
-    AreRefreshed (IsPriorityIn by taken.remaining h taken.depths.items) list taken.waiting keys →
+    AreRefreshed (IsKeyIn by taken.remaining h taken.depths.items) list taken.waiting keys →
     IsStep by before.remaining.nodes h (progress_of before) v (record (progress_of taken) { keys = keys })
 stepped by h before v list taken keys node within sizes t refreshed =
     let L = legs_of before.remaining in
@@ -130,7 +129,7 @@ stepped by h before v list taken keys node within sizes t refreshed =
     let down = row taken.remaining.downs v in
     let deep : ℕ → ℕ = λ x. slice_index taken.depths.items x in
     let Refreshed : ℕ → List ℕ → List (Option ℤ) →
-    Type 0 = λ n l old. AreRefreshed (IsPriorityBy by n h (legs_of taken.remaining) deep) l old keys in
+    Type 0 = λ n l old. AreRefreshed (IsKeyBy by n h (legs_of taken.remaining) deep) l old keys in
     let one = subst (λ n. Refreshed n list taken.waiting) t.nodes refreshed in
     let two = subst (λ l. Refreshed before.remaining.nodes l taken.waiting) t.listed one in
     let anew = subst (Refreshed before.remaining.nodes (neighbours_in up down)) t.waiting two in

@@ -13,7 +13,7 @@ use Rattle.ch_hierarchy.specs.Hierarchy.{LevelsAndLegs, IsLevelled}
 use Rattle.ch_hierarchy.specs.Kept.{IsKept}
 use Rattle.ch_hierarchy.specs.Saved.{IsOrderOf}
 use Rattle.ch_hierarchy.proofs.theory.Ordered.{contains_or_not}
-use Rattle.ch_contract.specs.declared.measure.OrderBy.{OrderBy}
+use Rattle.ch_order.specs.declared.keys.Keys.{Keys}
 use Rattle.ch_contract.specs.Legs.{Legs, AreLegsWithin}
 use Rattle.ch_contract.specs.Begun.{AreDifferentNodes}
 use Rattle.ch_contract.specs.Contraction.{count_touching}
@@ -124,7 +124,7 @@ rekeyed_set p keys v k has e = record {
 }
 
 -- if nodes with keys are judged, the queue keeps its nodes
-pub rekeyed_ranked : (by : OrderBy) (n h : ℕ) (nodes : List ℕ) (p q : Progress) → ((x : ℕ) → Contains nodes x → HasKey p.keys x) →
+pub rekeyed_ranked : (by : Keys) (n h : ℕ) (nodes : List ℕ) (p q : Progress) → ((x : ℕ) → Contains nodes x → HasKey p.keys x) →
     IsRanked by n h nodes p q → IsRekeyed p q
 rekeyed_ranked by n h nodes p q have r = record {
   rest = r.rest;

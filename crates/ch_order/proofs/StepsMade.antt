@@ -1,15 +1,15 @@
 -- The state that the contraction of one node after the other keeps, from the first node to the last.
 use Rattle.std.proofs.Common.{◌≡◌, ℕ, ◌+◌, ◌<◌, ◌≤◌, true, false, List, [], ◌∷◌, ◌++◌, length, sym, ◌∙◌, ap, subst, arith, inl, inr}
 use Rattle.std.proofs.Common.{Contains, Option, None, take, length-set, get_or-set_same, get_or-set_other}
-use Rattle.std.specs.Prelude.{◌≢◌, slice_index, slice_set, ◌||◌, is_some, ℤ}
+use Rattle.std.specs.Prelude.{◌≢◌, slice_index, slice_set, ◌||◌, is_some, ℤ, ◌≤ℤ◌}
 use Rattle.std.proofs.lemmas.Bool.{cases_eq, cases_lt}
 use Rattle.std.proofs.lemmas.List.{length_push, get_or_default, get_or_past, take_all, take-append-le}
 use Rattle.ch_graph.specs.declared.limits.TheConstants.{MOST_NODES}
 use Rattle.ch_queue.specs.Queue.{key_of, HasNone}
 use Rattle.ch_graph.specs.Graph.{Network}
-use Rattle.ch_contract.specs.declared.measure.OrderBy.{OrderBy}
+use Rattle.ch_order.specs.declared.keys.Keys.{Keys}
 use Rattle.ch_contract.specs.Legs.{Legs, AreLegsWithin, opening}
-use Rattle.ch_contract.specs.Contraction.{Contracts, IsPriorityBy}
+use Rattle.ch_contract.specs.Contraction.{Contracts}
 use Rattle.ch_contract.specs.Order.{are_neighbours, next_depth, depth_after, AreTaken}
 use Rattle.ch_contract.specs.Like.{IsHierarchyFrom}
 use Rattle.ch_order.specs.Steps.{IsAfterGiven, IsAfterSteps, IsAfterStepsBy}
@@ -17,7 +17,7 @@ use Rattle.ch_contract.specs.LegRows.{AreLegsFrom, AreLegsTo}
 use Rattle.ch_hierarchy.specs.Hierarchy.{LevelsAndLegs, IsLevelled}
 use Rattle.ch_hierarchy.specs.Saved.{IsOrderOf}
 use Rattle.ch_contract.specs.Built.{IsHierarchyIn}
-use Rattle.ch_order.specs.Progress.{Progress, HasPriority, IsNext, IsOpen, IsContraction, IsContractionBy, IsStep, AreAll}
+use Rattle.ch_order.specs.Progress.{Progress, HasPriority, IsKeyBy, IsNext, IsOpen, IsContraction, IsContractionBy, IsStep, AreAll}
 use Rattle.ch_order.specs.Priorities.{AreRefreshed, IsRanked}
 use Rattle.ch_contract.proofs.theory.Contracting.{ContractsWithPairs, pairs_by_needed}
 use Rattle.ch_contract.proofs.theory.Levelled.{within_steps, gone_steps, levelled}
@@ -29,15 +29,15 @@ use Rattle.ch_contract.proofs.theory.GivenNodes.{all_others, no_other}
 use Rattle.ch_order.proofs.PrioritySteps.{AreKept, all_taken, next_within, next_left, next_first, kept_more, kept_ranked}
 use Rattle.ch_contract.proofs.theory.RowSteps.{levels_more, rows_more}
 
--- the state after these steps, of which the first k are given: each later node came first, and the keys are the priorities
-pub record IsAfter (k : ℕ) (by : OrderBy) (g : Network) (h : ℕ) (order : List ℕ) (L : ℕ → Legs) (p : Progress) : Type 0 where
+-- the state after these steps, of which the first k are given: each later node came first, and the remaining nodes have their keys
+pub record IsAfter (k : ℕ) (by : Keys) (g : Network) (h : ℕ) (order : List ℕ) (L : ℕ → Legs) (p : Progress) : Type 0 where
   pub steps : IsAfterSteps g h order L p
   pub from : k ≤ length order
-  pub least : AreLeast k by g h order L
+  pub least : AreLeast k by.by g h order L
   pub priorities : AreKept k by g.nodes h order L p.keys
 
 -- the state after some steps, of which the first are given
-pub record IsAfterSomeSteps (by : OrderBy) (g : Network) (h : ℕ) (given : List ℕ) (p : Progress) : Type 0 where
+pub record IsAfterSomeSteps (by : Keys) (g : Network) (h : ℕ) (given : List ℕ) (p : Progress) : Type 0 where
   pub order : List ℕ
   pub L : ℕ → Legs
   pub after : IsAfter (length given) by g h order L p
@@ -193,7 +193,7 @@ given_more g h given p v q u within left s keys = record {
 }
 
 -- the nodes that remain are judged after the given ones
-pub steps_at_start : (by : OrderBy) (g : Network) (h : ℕ) (given others : List ℕ) (p q : Progress) → IsOrderOf g.nodes
+pub steps_at_start : (by : Keys) (g : Network) (h : ℕ) (given others : List ℕ) (p q : Progress) → IsOrderOf g.nodes
     (given ++ others) → IsAfterGiven g h given p → IsRanked by g.nodes h others p q → IsAfterSomeSteps by g h given q
 steps_at_start by g h given others p q is u r = record {
   order = given;
@@ -204,13 +204,13 @@ steps_at_start by g h given others p q is u r = record {
     least = λ i x ge lt inside away. absurd (omega arith);
     priorities = kept_ranked by g.nodes h given u.L p.depth others p.keys q.keys u.keys.0 u.keys.1 u.after.depths
         (all_others given others g.nodes is) (no_other given others g.nodes is)
-        (subst (λ (M : Legs). AreRefreshed (IsPriorityBy by g.nodes h M p.depth) others p.keys q.keys)
+        (subst (λ (M : Legs). AreRefreshed (IsKeyBy by g.nodes h M p.depth) others p.keys q.keys)
         (sym (one_map (u.L (length given)) p.legs u.after.legs)) r.keys);
   };
   first = take_all (length given) given (omega arith);
 }
 
-module _ (by : OrderBy) (g : Network) (h : ℕ) (given : List ℕ) (p : Progress) (u : IsAfterSomeSteps by g h given p) where
+module _ (by : Keys) (g : Network) (h : ℕ) (given : List ℕ) (p : Progress) (u : IsAfterSomeSteps by g h given p) where
   -- the remaining legs are within the limits
   pub steps_within : AreLegsWithin g.nodes p.legs
   steps_within = legs_within (Contracts g.nodes h) g u.order u.L p u.after.steps (pairs_by_needed g.nodes h)
@@ -233,8 +233,8 @@ module _ (by : OrderBy) (g : Network) (h : ℕ) (given : List ℕ) (p : Progress
     steps_count = count_fewer (Contracts g.nodes h) g u.order u.L p u.after.steps v steps_node left
 
     -- one more step keeps the state after some steps
-    pub steps_next : (q : Progress) → IsStep by g.nodes h p v q → IsAfterSomeSteps by g h given q
-    steps_next q s =
+    pub steps_next : f.priority ≤ℤ by.exact → (q : Progress) → IsStep by g.nodes h p v q → IsAfterSomeSteps by g h given q
+    steps_next small q s =
         let n : ℕ = length u.order in
         let k : ℕ = length given in
         let a = u.after in
@@ -246,11 +246,12 @@ module _ (by : OrderBy) (g : Network) (h : ℕ) (given : List ℕ) (p : Progress
           after = record {
             steps = steps_more (Contracts g.nodes h) g u.order u.L p a.steps v steps_node left q c;
             from = let size = length_push u.order v in let le = a.from in omega arith;
-            least = least_more k by g h u.order u.L v q.legs a.least a.from (next_first k by g.nodes h u.order u.L p.keys a.priorities v f);
+            least = least_more k by.by g h u.order u.L v q.legs a.least a.from
+                (next_first k by g.nodes h u.order u.L p.keys a.priorities v f small);
             priorities = kept_more k by g.nodes h u.order u.L p.keys a.priorities a.from v q.legs q.keys s.size s.taken left q.depth
                 (deep (Contracts g.nodes h) g u.order u.L p a.steps v steps_node left q c)
                 (subst (λ (M : Legs). (x : ℕ) → are_neighbours M v x ≡ true →
-                HasPriority (IsPriorityBy by g.nodes h q.legs q.depth) q.keys x) same s.anew)
+                HasPriority (IsKeyBy by g.nodes h q.legs q.depth) q.keys x) same s.anew)
                 (subst (λ (M : Legs). (x : ℕ) → x ≢ v → are_neighbours M v x ≡ false → key_of q.keys x ≡ key_of p.keys x) same s.kept)
                 (none_earlier (Contracts g.nodes h) g u.order u.L p a.steps (pairs_by_needed g.nodes h) v);
           };
@@ -262,7 +263,7 @@ module _ (by : OrderBy) (g : Network) (h : ℕ) (given : List ℕ) (p : Progress
     whole = all_taken (length given) by g.nodes h u.order u.L p.keys u.after.priorities none
 
     -- it is the hierarchy with the given nodes
-    pub steps_at_end : (H : LevelsAndLegs) → AreAll g.nodes p H → IsHierarchyFrom by g h given H
+    pub steps_at_end : (H : LevelsAndLegs) → AreAll g.nodes p H → IsHierarchyFrom by.by g h given H
     steps_at_end H all =
         let a = u.after.steps in
         let size = (all_taken_once (Contracts g.nodes h) g u.order u.L p a whole).nodes.0 in (

@@ -1,9 +1,9 @@
 -- The progress of contraction, one node after the other.
-use Rattle.std.specs.Prelude.{◌≡◌, ◌≢◌, ℕ, ◌+◌, ◌<◌, true, false, List, length, slice_set, Option, Some, None, ℤ}
+use Rattle.std.specs.Prelude.{◌≡◌, ◌≢◌, ℕ, ◌+◌, ◌<◌, true, false, List, length, slice_set, Option, Some, None, ℤ, ◌≤ℤ◌}
 use Rattle.ch_queue.specs.Queue.{key_of, HasNone}
 use Rattle.ch_graph.specs.Graph.{Network}
 use Rattle.ch_hierarchy.specs.declared.leg.Leg.{Leg}
-use Rattle.ch_contract.specs.declared.measure.OrderBy.{OrderBy}
+use Rattle.ch_order.specs.declared.keys.Keys.{Keys}
 use Rattle.ch_contract.specs.Legs.{Legs, SameLegs, AreLegsWithin, opening}
 use Rattle.ch_contract.specs.Contraction.{Contracts, IsPriorityBy}
 use Rattle.ch_contract.specs.Order.{are_neighbours, next_depth, IsContractedBefore}
@@ -25,6 +25,14 @@ pub record Progress : Type 0 where
 -- the key of x in the queue is its priority, for a relation that says which number that is
 abbrev pub HasPriority : (ℕ → ℤ → Type 0) → List (Option ℤ) → ℕ → Type 0
 HasPriority IsOf keys x = (p : ℤ) × (key_of keys x ≡ Some p) × IsOf x p
+
+-- p is at most q, and the same number unless it is above this bound
+abbrev pub IsExactUpTo : ℤ → ℤ → ℤ → Type 0
+IsExactUpTo exact q p = (p ≤ℤ q) × (p ≤ℤ exact → p ≡ q)
+
+-- p is the key of v: its priority, or if it is above the greatest exact key, at most its priority
+abbrev pub IsKeyBy : Keys → ℕ → ℕ → Legs → (ℕ → ℕ) → ℕ → ℤ → Type 0
+IsKeyBy keys n h L depth v p = (q : ℤ) × IsPriorityBy keys.by n h L depth v q × IsExactUpTo keys.exact q p
 
 -- v has a key, and comes before all others that have one
 pub record IsNext (keys : List (Option ℤ)) (v : ℕ) : Type 0 where
@@ -56,12 +64,12 @@ pub record IsContractionBy (IsStep : Legs → ℕ → Legs → Type 0) (before :
 abbrev pub IsContraction : ℕ → ℕ → Progress → ℕ → Progress → Type 0
 IsContraction n h before v after = IsContractionBy (Contracts n h) before v after
 
--- v is contracted and leaves the queue; only its neighbours get new priorities
-pub record IsStep (by : OrderBy) (n h : ℕ) (before : Progress) (v : ℕ) (after : Progress) : Type 0 where
+-- v is contracted and leaves the queue; only its neighbours get new keys
+pub record IsStep (by : Keys) (n h : ℕ) (before : Progress) (v : ℕ) (after : Progress) : Type 0 where
   pub contraction : IsContraction n h before v after
   pub size : length after.keys ≡ length before.keys
   pub taken : key_of after.keys v ≡ None
-  pub anew : (x : ℕ) → are_neighbours before.legs v x ≡ true → HasPriority (IsPriorityBy by n h after.legs after.depth) after.keys x
+  pub anew : (x : ℕ) → are_neighbours before.legs v x ≡ true → HasPriority (IsKeyBy by n h after.legs after.depth) after.keys x
   pub kept : (x : ℕ) → x ≢ v → are_neighbours before.legs v x ≡ false → key_of after.keys x ≡ key_of before.keys x
 
 -- the hierarchy has these levels and rows, of all n nodes

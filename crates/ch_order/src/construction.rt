@@ -7,7 +7,7 @@ mod like;
 mod quick;
 mod steps;
 
-ghost use Rattle.std.specs.Prelude.{◌≡◌, ℕ, ◌<◌, ◌^◌, ◌++◌, All, IfOk, None, length, slice_set};
+ghost use Rattle.std.specs.Prelude.{◌≡◌, ◌≢◌, ℕ, ◌<◌, ◌^◌, ◌++◌, pos, All, IfOk, IfSome, None, length, slice_set};
 ghost use Rattle.ch_graph.specs.Graph.{IsWithinLimits};
 ghost use Rattle.ch_contract.specs.Built.{IsHierarchy, IsHierarchyInTurn};
 ghost use Rattle.ch_contract.specs.Like.{IsHierarchyFrom};
@@ -16,6 +16,7 @@ ghost use Rattle.ch_hierarchy.specs.Kept.{IsKept};
 ghost use Rattle.ch_hierarchy.specs.Saved.{IsOrderOf};
 ghost use Rattle.ch_order.specs.Construction.{HasGiven};
 
+use crate::keys::{FIRST_EXACT, GROWTH, Keys, TRIES};
 use crate::priority::PriorityJob;
 pub use alone::{build_alone, build_like_alone};
 use ch_contract::memory::ask_ahead;
@@ -85,13 +86,28 @@ fn contract_in_turn<R: Threads + Sync, G: Gate>(
     requires order { IsOrderOf graph.now.nodes (given.now ++ others.now) }
     ensures { IfOk result (IsHierarchyFrom by graph.now hops.number given.now) }
 {
-    let begun = Construction::after(crew.alloc, crew.gate, graph, given, hops)?;
-    contract_others(crew, graph, begun, given, others, hops, by)
+    let alloc = crew.alloc;
+    let mut exact = FIRST_EXACT;
+    for _ in 0..TRIES {
+        let keys = Keys { by, exact };
+        let begun = Construction::after(alloc, crew.gate, graph, given, hops)?;
+        if let Some(hierarchy) = contract_others(crew, graph, begun, given, others, hops, keys)? {
+            return Ok(hierarchy);
+        }
+        exact = exact.saturating_mul(GROWTH);
+    }
+    let exact = i64::MAX;
+    let keys = Keys { by, exact };
+    let begun = Construction::after(alloc, crew.gate, graph, given, hops)?;
+    match contract_others(crew, graph, begun, given, others, hops, keys)? {
+        Some(hierarchy) => Ok(hierarchy),
+        None => unreachable!(),
+    }
 }
 
 /// Goes on with a construction in which the nodes `given` are contracted, as they come. Contracts the others in this order,
 /// and returns the hierarchy. The two lists together have each node once.
-fn contract_others<R: Threads + Sync, G: Gate>(
+fn contract_begun<R: Threads + Sync, G: Gate>(
     crew: &Crew<'_, R, G>,
     graph: &Graph,
     begun: Construction,
@@ -104,13 +120,41 @@ fn contract_others<R: Threads + Sync, G: Gate>(
     requires begun { HasGiven graph.now hops.number given.now begun }
     ensures { IfOk result (IsHierarchyFrom by graph.now hops.number given.now) }
 {
-    let mut construction = begun.rank(crew, others, hops, by)?;
+    let exact = FIRST_EXACT;
+    let keys = Keys { by, exact };
+    if let Some(hierarchy) = contract_others(crew, graph, begun, given, others, hops, keys)? {
+        return Ok(hierarchy);
+    }
+    contract_in_turn(crew, graph, given, others, hops, by)
+}
+
+/// Goes on with a construction in which the nodes `given` are contracted, as they come. Contracts the others by these keys,
+/// and returns the hierarchy, or `None` if a key comes first that is not exact. The two lists together have each node once.
+fn contract_others<R: Threads + Sync, G: Gate>(
+    crew: &Crew<'_, R, G>,
+    graph: &Graph,
+    begun: Construction,
+    given: &[u32],
+    others: &[u32],
+    hops: HopBound,
+    keys: Keys,
+) -> Result<Option<Hierarchy>, AllocError>
+    requires order { IsOrderOf graph.now.nodes (given.now ++ others.now) }
+    requires begun { HasGiven graph.now hops.number given.now begun }
+    ensures hierarchy { IfOk result (λ o. IfSome o (IsHierarchyFrom keys.by graph.now hops.number given.now)) }
+    ensures none { IfOk result (λ o. o ≡ None → keys.exact ≢ pos 9223372036854775807) }
+{
+    let mut construction = begun.rank(crew, others, hops, keys)?;
     while let Some(node) = construction.next() {
+        if !construction.is_exact(node, keys) {
+            return Ok(None);
+        }
         crew.gate
             .watch(Stage::Building, construction.contracted, graph.nodes());
-        construction = construction.contract(crew, node, hops, by)?;
+        construction = construction.contract(crew, node, hops, keys)?;
     }
-    construction.finish()
+    let hierarchy = construction.finish()?;
+    Ok(Some(hierarchy))
 }
 
 /// Reports that a ranking begins, unless it has no piece.
@@ -150,8 +194,8 @@ struct Construction {
 }
 
 impl Construction {
-    ghost use Rattle.std.specs.Prelude.{MatchOption};
-    ghost use Rattle.ch_queue.specs.Queue.{HasNone};
+    ghost use Rattle.std.specs.Prelude.{◌≤ℤ◌, ℤ, Some, false, IsTrue, MatchOption};
+    ghost use Rattle.ch_queue.specs.Queue.{HasNone, key_of};
     ghost use Rattle.ch_contract.specs.Rooms.{IsIdleRoom};
     ghost use Rattle.ch_hierarchy.specs.Hierarchy.{LevelsAndLegs, IsLevelled};
     ghost use Rattle.ch_order.specs.Progress.{AreAll, IsNext, IsOpen, IsStep};
@@ -204,13 +248,13 @@ impl Construction {
         Ok(construction)
     }
 
-    /// Gives these nodes the priorities that they have now. Workers share them.
+    /// Gives these nodes the keys that they have now. Workers share them.
     fn rank<R: Threads + Sync, G: Gate>(
         mut self,
         crew: &Crew<'_, R, G>,
         nodes: &[u32],
         hops: HopBound,
-        by: OrderBy,
+        keys: Keys,
     ) -> Result<Construction, AllocError>
         requires sizes { IsSized self }
         requires nodes { All (λ x. x < self.remaining.nodes) nodes.now }
@@ -218,14 +262,14 @@ impl Construction {
         requires rooms { All IsIdleRoom self.rooms.items }
         ensures sizes { IfOk result IsSized }
         ensures nodes { IfOk result (λ c. c.remaining.nodes ≡ self.remaining.nodes) }
-        ensures ranked { IfOk result (λ c. IsRanked by self.remaining.nodes hops.number nodes.now (progress_of self) (progress_of c)) }
+        ensures ranked { IfOk result (λ c. IsRanked keys self.remaining.nodes hops.number nodes.now (progress_of self) (progress_of c)) }
         ensures ready { IfOk result (λ c. (h : ℕ) → IsJudging h self → IsJudging h c) }
     {
         let job = PriorityJob {
             remaining: &self.remaining,
             depths: self.depths.as_slice(),
             hops,
-            by,
+            keys,
         };
         tell_ranking(crew.gate, crew.plan.pieces(nodes.len() as u32));
         job.set_by_all(crew, nodes, &mut self.rooms, &mut self.waiting)?;
@@ -240,18 +284,30 @@ impl Construction {
         Some(node)
     }
 
+    /// Whether the key of a node is its priority.
+    fn is_exact(&self, node: u32, keys: Keys) -> bool
+        requires { node < length self.now.waiting }
+        ensures exact { IsTrue result → (p : ℤ) → key_of self.now.waiting node ≡ Some p → p ≤ℤ keys.exact }
+        ensures above { result ≡ false → keys.exact ≢ pos 9223372036854775807 }
+    {
+        match self.waiting.key(node) {
+            Some(key) => key <= keys.exact,
+            None => true,
+        }
+    }
+
     /// Contracts a node, and keeps its level and its legs.
     fn contract<R: Threads + Sync, G: Gate>(
         self,
         crew: &Crew<'_, R, G>,
         node: u32,
         hops: HopBound,
-        by: OrderBy,
+        keys: Keys,
     ) -> Result<Construction, AllocError>
         requires next { IsReadyFor hops.number self node }
         ensures sizes { IfOk result IsSized }
         ensures nodes { IfOk result (λ c. c.remaining.nodes ≡ self.remaining.nodes) }
-        ensures step { IfOk result (λ c. IsStep by self.remaining.nodes hops.number (progress_of self) node (progress_of c)) }
+        ensures step { IfOk result (λ c. IsStep keys self.remaining.nodes hops.number (progress_of self) node (progress_of c)) }
         ensures ready { IfOk result (IsJudging hops.number) }
     {
         let (mut taken, neighbours) = self.take(crew.alloc, node, hops)?;
@@ -259,7 +315,7 @@ impl Construction {
             remaining: &taken.remaining,
             depths: taken.depths.as_slice(),
             hops,
-            by,
+            keys,
         };
         job.refresh(
             crew,

@@ -14,6 +14,7 @@
 #![tactic(auto)]
 
 mod construction;
+mod keys;
 mod priority;
 
 pub use construction::{

@@ -1,24 +1,24 @@
 //! Priorities of nodes, in the queue of the remaining nodes.
 ghost use Rattle.std.specs.Prelude.{◌≡◌, ◌^◌, ◌<◌, length, All, IfOk, OnOk};
 ghost use Rattle.std.specs.List.{AllZip};
-ghost use Rattle.ch_contract.specs.Measures.{IsPriorityIn};
 ghost use Rattle.ch_contract.specs.Rooms.{IsIdleRoom, IsReady};
 ghost use Rattle.ch_contract.specs.Remaining.{legs_of};
-ghost use Rattle.ch_order.specs.Priorities.{AreRefreshed};
+ghost use Rattle.ch_order.specs.Priorities.{AreRefreshed, IsKeyIn};
 
-use ch_contract::{HopBound, OrderBy, Remaining, Room};
+use crate::keys::Keys;
+use ch_contract::{HopBound, Remaining, Room};
 use ch_queue::KeyQueue;
 use ch_work::{Crew, Gate, ListJob, run_list_in};
 use std::alloc::{AllocError, Global};
 use std::thread::Threads;
 
-/// The job that computes the priorities of nodes with the remaining legs and these depths.
+/// The job that computes the keys of nodes with the remaining legs and these depths.
 #[derive(Drop)]
 pub(crate) struct PriorityJob<'a> {
     pub(crate) remaining: &'a Remaining,
     pub(crate) depths: &'a [u32],
     pub(crate) hops: HopBound,
-    pub(crate) by: OrderBy,
+    pub(crate) keys: Keys,
     ghost size: { length depths.now ≡ remaining.now.nodes },
 }
 
@@ -31,7 +31,7 @@ impl ListJob for PriorityJob<'_> {
 
     ghost takes = { λ job x. x < job.remaining.now.nodes };
 
-    ghost meaning = { λ job x p. IsPriorityIn job.by job.remaining.now job.hops.number job.depths.now x p };
+    ghost meaning = { λ job x p. IsKeyIn job.keys job.remaining.now job.hops.number job.depths.now x p };
 
     ghost clean = { λ job room. IsIdleRoom room };
 
@@ -46,7 +46,7 @@ impl ListJob for PriorityJob<'_> {
 }
 
 impl PriorityJob<'_> {
-    /// Returns the priority of a node. The node is judged in this room.
+    /// Returns the key of a node. The node is judged in this room.
     pub(crate) fn priority(
         &self,
         alloc: Global,
@@ -56,12 +56,13 @@ impl PriorityJob<'_> {
         requires node { node < self.now.remaining.now.nodes }
         requires ready { IsReady self.now.remaining.now.nodes self.now.hops.number (legs_of self.now.remaining.now) room.old }
         ensures priority { IfOk result
-            (IsPriorityIn self.now.by self.now.remaining.now self.now.hops.number self.now.depths.now node) }
+            (IsKeyIn self.now.keys self.now.remaining.now self.now.hops.number self.now.depths.now node) }
         ensures ready { OnOk result (IsReady self.now.remaining.now.nodes self.now.hops.number
             (legs_of self.now.remaining.now) room.new) }
     {
-        let measure = room.judge(alloc, self.remaining, node, self.hops)?;
-        Ok(self.by.key(measure, self.depths[node as usize]))
+        let most = self.keys.most_counted(self.remaining.count_touching(node));
+        let measure = room.judge_up_to(alloc, self.remaining, node, self.hops, most)?;
+        Ok(self.keys.by.key(measure, self.depths[node as usize]))
     }
 
     /// Gives these nodes the priorities that they have now. If they are at least `crew.plan.wide()` nodes, they
@@ -81,7 +82,7 @@ impl PriorityJob<'_> {
         requires ready { IsReady self.now.remaining.now.nodes self.now.hops.number (legs_of self.now.remaining.now) room.old }
         requires rooms { All IsIdleRoom rooms.old.items }
         ensures anew { OnOk result (AreRefreshed
-            (IsPriorityIn self.now.by self.now.remaining.now self.now.hops.number self.now.depths.now)
+            (IsKeyIn self.now.keys self.now.remaining.now self.now.hops.number self.now.depths.now)
             nodes.now waiting.old waiting.new) }
         ensures ready { OnOk result (IsReady self.now.remaining.now.nodes self.now.hops.number
             (legs_of self.now.remaining.now) room.new) }
@@ -120,7 +121,7 @@ impl PriorityJob<'_> {
         requires size { length waiting.old ≡ self.now.remaining.now.nodes }
         requires rooms { All IsIdleRoom rooms.old.items }
         ensures anew { OnOk result (AreRefreshed
-            (IsPriorityIn self.now.by self.now.remaining.now self.now.hops.number self.now.depths.now)
+            (IsKeyIn self.now.keys self.now.remaining.now self.now.hops.number self.now.depths.now)
             nodes.now waiting.old waiting.new) }
         ensures rooms { All IsIdleRoom rooms.new.items }
     {
@@ -140,7 +141,7 @@ impl PriorityJob<'_> {
         requires nodes { All (λ x. x < self.now.remaining.now.nodes) nodes.now }
         requires size { length waiting.old ≡ self.now.remaining.now.nodes }
         ensures { OnOk result (AreRefreshed
-            (IsPriorityIn self.now.by self.now.remaining.now self.now.hops.number self.now.depths.now)
+            (IsKeyIn self.now.keys self.now.remaining.now self.now.hops.number self.now.depths.now)
             nodes.now waiting.old waiting.new) }
     {
         let mut room = Room::new(alloc);
@@ -163,7 +164,7 @@ impl PriorityJob<'_> {
         requires size { length waiting.old ≡ self.now.remaining.now.nodes }
         requires ready { IsReady self.now.remaining.now.nodes self.now.hops.number (legs_of self.now.remaining.now) room.old }
         ensures anew { OnOk result (AreRefreshed
-            (IsPriorityIn self.now.by self.now.remaining.now self.now.hops.number self.now.depths.now)
+            (IsKeyIn self.now.keys self.now.remaining.now self.now.hops.number self.now.depths.now)
             nodes.now waiting.old waiting.new) }
         ensures ready { OnOk result (IsReady self.now.remaining.now.nodes self.now.hops.number
             (legs_of self.now.remaining.now) room.new) }
@@ -178,10 +179,10 @@ impl PriorityJob<'_> {
     /// Gives each of these nodes the priority at the same place.
     fn set_all(&self, nodes: &[u32], priorities: &[i64], waiting: &mut KeyQueue<i64>)
         requires nodes { All (λ x. x < self.now.remaining.now.nodes) nodes.now }
-        requires priorities { AllZip (IsPriorityIn self.now.by self.now.remaining.now self.now.hops.number self.now.depths.now)
+        requires priorities { AllZip (IsKeyIn self.now.keys self.now.remaining.now self.now.hops.number self.now.depths.now)
             nodes.now priorities.now }
         requires size { length waiting.old ≡ self.now.remaining.now.nodes }
-        ensures { AreRefreshed (IsPriorityIn self.now.by self.now.remaining.now self.now.hops.number self.now.depths.now)
+        ensures { AreRefreshed (IsKeyIn self.now.keys self.now.remaining.now self.now.hops.number self.now.depths.now)
             nodes.now waiting.old waiting.new }
     {
         for (node, priority) in nodes.iter().zip(priorities) {

@@ -9,3 +9,4 @@ pub mod RouteArcs
 pub mod RouteWalks
 pub mod RouteAnswers
 pub mod Replies
+pub mod SearchTrees

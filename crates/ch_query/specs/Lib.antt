@@ -21,6 +21,7 @@ pub mod Spread
 pub mod Tasks
 pub mod SearchSpace
 pub mod SearchSpaceLaws
+pub mod SearchTree
 pub mod Lowered
 pub mod Checking
 pub mod Covering

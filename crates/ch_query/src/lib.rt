@@ -14,6 +14,7 @@
 //!   a search space and buckets.
 //! - [`answer_one`] returns the answer to a query, and [`answer_all`] those to many queries in their order, for every
 //!   plan.
+//! - [`search_tree`] lists the nodes that routes from a source lead over, each with its parent on the way back.
 //!
 //! Proved on every hierarchy with levels: [`spread`] lists all that a node reaches by legs to higher nodes,
 //! with the exact least costs.
@@ -40,6 +41,6 @@ pub use routes::query::route;
 pub use routes::unpacking::PendingLeg;
 pub use routes::way::route_legs;
 pub use scratch::Scratch;
-pub use sides::{Sides, spread};
+pub use sides::{Sides, TreeNode, search_tree, spread};
 pub use start::Start;
 pub use weights::{Lowering, distance, lower_by_search, ranked_spaces, ranked_spaces_alone};

@@ -1,5 +1,6 @@
 //! Searches by costs, from both sides of a query. Each is Dijkstra's algorithm, along legs to higher nodes.
 
+mod growing;
 mod labels;
 pub(crate) mod meeting;
 pub(crate) mod search;
@@ -8,6 +9,7 @@ mod spreading;
 ghost use Rattle.std.specs.Prelude.{◌≡◌, IfOk};
 
 use ch_hierarchy::Side;
+pub use growing::{TreeNode, search_tree};
 use search::Search;
 pub use spreading::spread;
 use std::alloc::{AllocError, Global};

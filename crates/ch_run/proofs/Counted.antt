@@ -94,6 +94,13 @@ module _ {T I : Type 0} (r : Result T RunFault) {gives : Calls I} {failed : I �
     crowded = λ node is. let at = met.why (RunFault.Crowded node) (refl, λ is. cc) is in
         (at.0, at.2.2.0, at.1, (at.2.0, at.2.1, at.2.2.1), at.2.2.2);
   }
+  source_after graph (Source.Customized old hops) (Source.Customized new hops') same met = record {
+    lines = reads_after counts (λ is. cc) met;
+    order = λ is. let at = met.why RunFault.Order (refl, λ is. cc) is in
+        (at.0, at.2.2.0, at.1, (at.2.0, at.2.1, at.2.2.1), at.2.2.2);
+    crowded = λ node is. let at = met.why (RunFault.Crowded node) (refl, λ is. cc) is in at.2.2;
+  }
+  source_after graph (Source.Dissected hops) (Source.Dissected hops') same met = cc
   source_after graph _ _ same met = absurd (let none : ⊥ = cc in none)
 
   -- the promise on the list of sources

@@ -20,8 +20,8 @@ use Rattle.ch_text.specs.SaveText.{IsHierarchyText}
 use Rattle.ch_text.proofs.OneText.{one_hierarchy_text, one_table_text}
 use Rattle.ch_run.specs.DistRun.{IsAnsweredBy}
 use Rattle.ch_run.specs.NearRun.{AreSources, IsNearBy}
-use Rattle.ch_run.specs.Run.{GivesOnly, NoFile, NoInput, OneInput, OrderFile, Reading, ReadingIf, ReadsAll, ReadsGraph, SavedFile}
-use Rattle.ch_run.specs.Run.{SourceReading}
+use Rattle.ch_run.specs.Run.{CustomizedFile, FoundOrder, GivesOnly, NoFile, NoInput, OneInput, OrderFile, Reading, ReadingIf, ReadsAll}
+use Rattle.ch_run.specs.Run.{ReadsGraph, SavedFile, SourceReading}
 use Rattle.ch_run.specs.SaveRun.{IsSavedBy}
 use Rattle.ch_run.specs.Source.{AreLoaded, IsBuiltToSave, IsOfRoutes, IsServing, IsToSave, ReadsSaved, WithLoaded}
 use Rattle.ch_run.specs.TableRun.{IsTabledBy}
@@ -35,11 +35,14 @@ reads_one : {V : Type 0} (input : Reading) (bytes : List ℕ) → GivesOnly inpu
 reads_one input bytes told names one x y a b =
     one x y (subst (λ xs. names xs x) (told a.0 a.1) a.2) (subst (λ xs. names xs y) (told b.0 b.1) b.2)
 
--- the reads of the input for the hierarchy, or of a list that only some runs have, can give only certain bytes
+-- the reads of the input for the hierarchy, or of a list that only some runs have, can give only certain bytes. No rule names the hierarchy
+-- if it is customized, because it may be built quickly instead
 abbrev HasKnown : SourceReading → Type 0
 HasKnown NoFile = ⊤
 HasKnown (SavedFile saved) = (bytes : List ℕ) × GivesOnly saved bytes
 HasKnown (OrderFile order fresh hops) = (bytes : List ℕ) × GivesOnly order bytes
+HasKnown (CustomizedFile order hops) = ⊥
+HasKnown (FoundOrder hops) = ⊥
 
 abbrev HasKnownIf : ReadingIf → Type 0
 HasKnownIf NoInput = ⊤
@@ -84,6 +87,9 @@ serving_kept graph NoFile by hops bound g None loaded H is = hierarchies_kept by
 serving_kept graph NoFile by hops bound g (Some K) (limits, read, same) H is = absurd (let none : ⊥ = cc in none)
 serving_kept graph (SavedFile saved) by hops bound g (Some K) loaded H is = subst (IsKept g) (sym is) loaded.1.names.1
 serving_kept graph (OrderFile order fresh legs) by hops bound g (Some K) loaded H is = subst (IsKept g) (sym is) loaded.1.kept
+serving_kept graph (CustomizedFile order legs) by hops bound g (Some K) loaded H is =
+    subst (IsKept g) (sym is) loaded.1.customized.kept
+serving_kept graph (FoundOrder legs) by hops bound g (Some K) loaded H is = subst (IsKept g) (sym is) loaded.dissected.1.kept
 serving_kept graph _ by hops bound g None loaded H is = absurd loaded
 
 -- a list of nodes, or all nodes
@@ -116,6 +122,8 @@ module _ (graph : Reading) (graph_bytes : List ℕ) (told : GivesOnly graph grap
       let first = take (given_count g.nodes fresh) s.order in
       let one = one_hierarchy_from Depth g hops first H K a.like (rw (same.0, same.1) b.like) in
       (same.0, ap (λ (L : LevelsAndLegs). Some L) one)
+  one_loaded (CustomizedFile order hops) known g k h l a b = absurd known
+  one_loaded (FoundOrder hops) known g k h l a b = absurd known
   one_loaded _ known g k None l a b = absurd a
   one_loaded _ known g k h None a b = absurd b
 

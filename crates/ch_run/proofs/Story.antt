@@ -8,7 +8,8 @@ use Rattle.ch_hierarchy.specs.Hierarchy.{LevelsAndLegs}
 use Rattle.ch_text.specs.declared.device.DeviceFault.{DeviceFault}
 use Rattle.ch_run.specs.declared.fault.RunFault.{RunFault}
 use Rattle.ch_run.specs.declared.fault.Which.{Which}
-use Rattle.ch_run.specs.Run.{NoFile, NoInput, OneInput, OrderFile, Reading, ReadingIf, SavedFile, SourceReading}
+use Rattle.ch_run.specs.Customized.{IsUncustomizable}
+use Rattle.ch_run.specs.Run.{CustomizedFile, FoundOrder, NoFile, NoInput, OneInput, OrderFile, Reading, ReadingIf, SavedFile, SourceReading}
 use Rattle.ch_run.specs.Story.{EndsAtIf, IsOrderRefusedOn, IsRefused, IsSavedRefusedOn, Loads, LoadsSource, Reads, ReadsIf, Writes}
 use Rattle.ch_run.specs.NearRun.{AreSources, sources_among}
 use Rattle.ch_run.proofs.Owed.{err_as}
@@ -39,6 +40,10 @@ loads_as s r graph source {later = later} {none = none} {next = next} stop go =
         reads_as s r Which.Saved saved (IsSavedRefusedOn g) (λ P own at. stop P own) (λ H. go g (Some H)) reads
     at (OrderFile order fresh hops) g reads =
         reads_as s r Which.Order order (IsOrderRefusedOn g fresh hops) (λ P own at. stop P own) (λ H. go g (Some H)) reads
+    at (CustomizedFile order hops) g reads =
+        reads_as s r Which.Order order (IsUncustomizable g) (λ P own at. stop P own) (λ H. go g (Some H)) reads
+    at (FoundOrder hops) g (inl none) = inl (stop _ none.0)
+    at (FoundOrder hops) g (inr (H, is, on)) = inr (H, is, go g (Some H) on)
 
 -- the run that loaded in vain stops there
 pub loads_stops : (S : Type 0) {T : Type 0} (graph : Reading) (source : SourceReading) (r : Result T RunFault)

@@ -14,12 +14,13 @@ use Rattle.ch_run.specs.declared.fault.RunFault.{RunFault}
 use Rattle.ch_run.specs.declared.fault.Which.{Which}
 use Rattle.ch_run.specs.Lists.{HasTooManyCells}
 use Rattle.ch_run.specs.NearRun.{AreSources, IsOfSources, sources_among}
-use Rattle.ch_run.specs.Run.{AcceptsGraph, Delivers, GoesPast, GoesPastAll, IsOf, IsWrite, NoFile, NoInput, OneInput, OrderFile, Reading}
-use Rattle.ch_run.specs.Run.{ReadingIf, ReadsAll, ReadsGraph, SavedFile, SourceReading, StopsAt}
-use Rattle.ch_run.specs.Source.{AreBuiltLike, AreChecked, AreLoaded, IsOfLoading, ReadsSaved}
+use Rattle.ch_run.specs.Customized.{IsUncustomizable}
+use Rattle.ch_run.specs.Run.{AcceptsGraph, CustomizedFile, Delivers, FoundOrder, GoesPast, GoesPastAll, IsOf, IsWrite, NoFile, NoInput}
+use Rattle.ch_run.specs.Run.{OneInput, OrderFile, Reading, ReadingIf, ReadsAll, ReadsGraph, SavedFile, SourceReading, StopsAt}
+use Rattle.ch_run.specs.Source.{AreBuiltLike, AreChecked, AreCustomized, AreDissected, AreLoaded, IsOfLoading, ReadsSaved}
 use Rattle.ch_run.specs.Story.{Cells, EndsAt, HasEnded, IsOrderRefusedOn, IsRefused, IsSavedRefusedOn, Loads, Reads, ReadsIf, Writes}
 use Rattle.ch_run.specs.Told.{Calls}
-use Rattle.ch_run.proofs.Owed.{err_is, err_own, err_weaker, no_end, of_no_write, of_one}
+use Rattle.ch_run.proofs.Owed.{ends_as, err_is, err_own, err_weaker, no_end, of_no_write, of_one}
 
 -- the step in which a run reads an input: the graph first, then the file for its hierarchy, and the targets last
 abbrev pub step_of : Which → ℕ
@@ -65,6 +66,9 @@ MetSource r graph (SavedFile saved) same = Met r Which.Saved saved same (Accepts
     (λ input e. (g : Network) × ReadsGraph graph g × HasEnded input (IsSavedRefusedOn g) e)
 MetSource r graph (OrderFile order fresh hops) same = Met r Which.Order order same (AcceptsGraph graph)
     (λ input e. (g : Network) × ReadsGraph graph g × HasEnded input (IsOrderRefusedOn g fresh hops) e)
+MetSource r graph (CustomizedFile order hops) same = Met r Which.Order order same (AcceptsGraph graph)
+    (λ input e. (g : Network) × ReadsGraph graph g × HasEnded input (IsUncustomizable g) e)
+MetSource r graph (FoundOrder hops) same = ⊤
 
 -- what is told of the list of sources, if there is one
 abbrev pub MetIf : {T : Type 0} → Result T RunFault → ReadingIf → (same accepted : Type 0) → (Reading → RunFault → Type 0) → Type 0
@@ -206,6 +210,31 @@ module _ {T : Type 0} (r : Result T RunFault) (Own : RunFault → Type 0) where
       record { reads_graph = read; limits = named.2.1; reads_order = order_read; each = is.2.2; like = is.2.3; kept = is.2.4 } in
       go g (Some H) (is.2.0, built))) in
       record { own = e.0; graph = e.2.0; source = e.2.1.0; later = e.2.1.1 }
+  loads_told graph (CustomizedFile order hops) own went stop go =
+      let e = reads_told Which.Graph graph (IsRefused Form.Graph) 1 (omega arith) (λ e is. own e (inl is)) tt (λ e is. is) went
+      (λ is at. (untouched r Which.Graph is (omega arith) at.0, stop Which.Graph (omega arith) (λ e of. inl of) is at.1))
+      (λ g named rest. let read : ReadsGraph graph g = (named.0, named.1, named.2.0) in
+      reads_told Which.Order order (IsUncustomizable g) 2 (omega arith) (λ e is. own e (inr is)) (g, read) (λ e is. (g, read, is)) rest
+      (stop Which.Order (omega arith) (λ e of. inr of)) (λ H is.
+      let order_read : ReadsSaved order g.nodes is.2.0 = (is.0, is.1, is.2.1) in
+      let made : AreCustomized graph order hops g is.2.0 H =
+      record { reads_graph = read; limits = named.2.1; reads_order = order_read; customized = is.2.2 } in
+      go g (Some H) (is.2.0, made))) in
+      record { own = e.0; graph = e.2.0; source = e.2.1.0; later = e.2.1.1 }
+  loads_told graph (FoundOrder hops) own went stop go =
+      let e = reads_told Which.Graph graph (IsRefused Form.Graph) 2 (omega arith) own tt (λ e is. is) went
+      (λ is at. stop Which.Graph (omega arith) (λ e of. of) is at.1)
+      (λ g named rest. elim rest [
+        | inl none ↦
+            let none_left = ends_as r _ none.0 in
+            let told = stop Which.Graph (omega arith) (λ e of. of) (rw none_left tt) none.1 in
+            (rw none_left (own _ tt), λ which less. rw none_left (λ stops. absurd (stops.1 refl)), told)
+        | inr made ↦
+            let read : ReadsGraph graph g = (named.0, named.1, named.2.0) in
+            let found : AreDissected graph hops g made.0 = record { reads_graph = read; limits = named.2.1; dissected = made.1 } in
+            go g (Some made.0) found made.2
+      ]) in
+      record { own = e.0; graph = e.2.0; source = tt; later = e.2.1 }
 
   -- a run stopped at the list of sources, or went on with the sources
   pub sources_told : (same : Type 0) {later accepted L : Type 0} {next : Option (List ℕ) → Type 0} (n : ℕ)

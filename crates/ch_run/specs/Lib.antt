@@ -6,6 +6,7 @@ pub mod Story
 pub mod Stories
 pub mod Told
 pub mod Source
+pub mod Customized
 pub mod Loaded
 pub mod SavedTextLaws
 pub mod TextLaws

@@ -48,6 +48,11 @@ pub data SourceReading : Type 1 where
   -- the run reads an order and builds the hierarchy in an order like it: this per cent of the nodes are ordered afresh, and a witness has
   -- at most this many legs
   OrderFile : (order : Reading) (fresh hops : ℕ) → SourceReading
+  -- the run reads an order and customizes the hierarchy in it. If the order has too many triangles, the run builds the hierarchy, and a
+  -- witness has at most this many legs
+  CustomizedFile : (order : Reading) (hops : ℕ) → SourceReading
+  -- the same in an order that the run finds. It reads nothing for it
+  FoundOrder : (hops : ℕ) → SourceReading
 
 -- the input was read to its end, and P holds of its bytes
 abbrev pub ReadsAll : Reading → (List ℕ → Type 0) → Type 0

@@ -22,9 +22,10 @@ use Rattle.ch_run.specs.declared.fault.RunFault.{RunFault}
 use Rattle.ch_job.specs.declared.options.Options.{Options}
 use Rattle.ch_order.specs.Quick.{IsHierarchyAfter}
 use Rattle.ch_job.specs.declared.source.Source.{Source}
-use Rattle.ch_job.specs.declared.source.Source.TheVariants.{Built, Saved, Like}
+use Rattle.ch_job.specs.declared.source.Source.TheVariants.{Built, Customized, Dissected, Like, Saved}
+use Rattle.ch_run.specs.Customized.{IsCustomizedIn, IsDissected}
 use Rattle.ch_run.specs.Run.{AcceptsGraph, Reading, ReadsAfter, ReadsAll, ReadsGraph, IsOf, reading, SourceReading, NoFile}
-use Rattle.ch_run.specs.Run.{SavedFile, OrderFile}
+use Rattle.ch_run.specs.Run.{CustomizedFile, FoundOrder, SavedFile, OrderFile}
 use Rattle.ch_run.specs.Text.{writes_routes}
 
 -- the reading of that input. A run leaves it as what it is: a saved hierarchy or an order
@@ -32,6 +33,8 @@ abbrev pub source_reading : {S : Type 0} → (gives : S → List ℕ → Result 
 source_reading gives Built new = NoFile
 source_reading gives (Saved old) (Saved new) = SavedFile (reading gives old new)
 source_reading gives (Like old fresh hops) (Like new fresh' hops') = OrderFile (reading gives old new) fresh.number hops.number
+source_reading gives (Customized old hops) (Customized new hops') = CustomizedFile (reading gives old new) hops.number
+source_reading gives (Dissected hops) new = FoundOrder hops.number
 source_reading gives _ _ = NoFile
 
 -- the input was read to its end and names this order and these legs, on a graph with this many nodes
@@ -55,11 +58,26 @@ pub record AreBuiltLike (graph order : Reading) (fresh hops : ℕ) (g : Network)
   pub like : IsHierarchyLike g hops s.order fresh H
   pub kept : IsKept g H
 
+-- the inputs were read to their end. They name a graph within the limits and an order of its nodes, in which the hierarchy is customized
+pub record AreCustomized (graph order : Reading) (hops : ℕ) (g : Network) (s : OrderAndLegs) (H : LevelsAndLegs) : Type 0 where
+  pub reads_graph : ReadsGraph graph g
+  pub limits : IsWithinLimits g
+  pub reads_order : ReadsSaved order g.nodes s
+  pub customized : IsCustomizedIn g hops s.order H
+
+-- the graph was read to its end and is within the limits, and the hierarchy is customized in some order
+pub record AreDissected (graph : Reading) (hops : ℕ) (g : Network) (H : LevelsAndLegs) : Type 0 where
+  pub reads_graph : ReadsGraph graph g
+  pub limits : IsWithinLimits g
+  pub dissected : IsDissected g hops H
+
 -- a saved hierarchy was read to its end and is this one, which is right for the graph. Or an order was read to its end, and this is the
--- hierarchy that was built like it
+-- hierarchy that was built like it, or customized in it. Or this one is customized in some order
 abbrev pub ComesFromFile : (graph : Reading) → (source : SourceReading) → Network → Option LevelsAndLegs → Type 0
 ComesFromFile graph (SavedFile saved) g (Some H) = (s : OrderAndLegs) × AreChecked graph saved g s H
 ComesFromFile graph (OrderFile order fresh hops) g (Some H) = (s : OrderAndLegs) × AreBuiltLike graph order fresh hops g s H
+ComesFromFile graph (CustomizedFile order hops) g (Some H) = (s : OrderAndLegs) × AreCustomized graph order hops g s H
+ComesFromFile graph (FoundOrder hops) g (Some H) = AreDissected graph hops g H
 ComesFromFile graph _ g _ = ⊥
 
 -- the input was read to its end and names this graph, which is within the limits. If a file is read for the hierarchy, this one comes
@@ -144,6 +162,14 @@ pub record ReadsOrder {T S : Type 0} (graph : Reading) (fresh hops : ℕ) (resul
   pub order : result ≡ Err RunFault.Order → HasOrderRefused graph (reading gives old new)
   pub crowded : (node : ℕ) → result ≡ Err (RunFault.Crowded node) → HasCrowdedOrder graph (reading gives old new) fresh hops node
 
+-- a run reads an order after the graph to customize the hierarchy in it. It refuses it only for a fault of its lines, or if it does not
+-- have each node once
+pub record ReadsTopology {T S : Type 0} (graph : Reading) (result : Result T RunFault)
+    (gives : S → List ℕ → Result ℕ DeviceFault → S → Type 0) (failed : S → ℕ) (old new : S) : Type 0 where
+  pub lines : ReadsAfter (Which.Graph ∷ []) (AcceptsGraph graph) Which.Order result gives failed old new (HasSavedRefused graph)
+  pub order : result ≡ Err RunFault.Order → HasOrderRefused graph (reading gives old new)
+  pub crowded : (node : ℕ) → result ≡ Err (RunFault.Crowded node) → ⊥
+
 -- the promise of a run on the source of its hierarchy. A source without an input has none afterwards, and the others stay what they are
 abbrev pub ReadsSource : {T S : Type 0} → Reading → Result T RunFault → (gives : S → List ℕ → Result ℕ DeviceFault → S → Type 0) →
     (S → ℕ) → Source S → Source S → Type 0
@@ -151,6 +177,8 @@ ReadsSource graph result gives failed Built new = new ≡ Built
 ReadsSource graph result gives failed (Saved old) (Saved new) = ReadsChecked graph result gives failed old new
 ReadsSource graph result gives failed (Like old fresh hops) (Like new fresh' hops') =
     ReadsOrder graph fresh.number hops.number result gives failed old new
+ReadsSource graph result gives failed (Customized old hops) (Customized new hops') = ReadsTopology graph result gives failed old new
+ReadsSource graph result gives failed (Dissected hops) new = new ≡ Dissected hops
 ReadsSource graph result gives failed _ _ = ⊥
 
 -- the faults that reading the graph and a saved hierarchy can end in: one is refused or can't be read, or there is no memory
@@ -166,3 +194,5 @@ abbrev pub IsOfLoading : SourceReading → RunFault → Type 0
 IsOfLoading NoFile fault = IsOf Which.Graph fault
 IsOfLoading (SavedFile saved) fault = IsOfChecked fault
 IsOfLoading (OrderFile order fresh hops) fault = IsOfOrdered fault
+IsOfLoading (CustomizedFile order hops) fault = IsOfOrdered fault
+IsOfLoading (FoundOrder hops) fault = IsOf Which.Graph fault

@@ -15,8 +15,10 @@ use Rattle.ch_text.specs.Moves.{Took, TookUntilFault}
 use Rattle.ch_text.specs.declared.device.DeviceFault.{DeviceFault}
 use Rattle.ch_run.specs.declared.fault.Which.{Which}
 use Rattle.ch_run.specs.declared.fault.RunFault.{RunFault}
+use Rattle.ch_run.specs.Customized.{IsDissected, IsUncustomizable, NamesCustomized}
 use Rattle.ch_run.specs.Lists.{HasTooManyCells}
-use Rattle.ch_run.specs.Run.{IsOf, NoInput, OneInput, Reading, ReadingIf, ReadsAll, SourceReading, NoFile, SavedFile, OrderFile}
+use Rattle.ch_run.specs.Run.{CustomizedFile, FoundOrder, IsOf, NoFile, NoInput, OneInput, OrderFile, Reading, ReadingIf, ReadsAll}
+use Rattle.ch_run.specs.Run.{SavedFile, SourceReading}
 
 -- the bytes of an input of this form are refused, for this fault of their lines
 abbrev pub IsRefused : Form → List ℕ → RunFault → Type 0
@@ -75,7 +77,7 @@ ReadsIf which NoInput names refuses result later next = next None
 ReadsIf which (OneInput input) names refuses result later next = Reads which input names refuses result later (λ value. next (Some value))
 
 -- the run read a saved hierarchy that is right for the graph, or an order and built the hierarchy in an order like it, if there is one of
--- these
+-- these. Or it customized the hierarchy, in an order that it read or found
 abbrev pub LoadsSource : {T : Type 0} → Network → SourceReading → Result T RunFault → (later : Type 0) →
     (next : Option LevelsAndLegs → Type 0) → Type 0
 LoadsSource g NoFile result later next = next None
@@ -84,6 +86,10 @@ LoadsSource g (SavedFile saved) result later next =
     result later (λ H. next (Some H))
 LoadsSource g (OrderFile order fresh hops) result later next =
     Reads Which.Order order (λ bytes H. NamesLike g fresh hops bytes H) (IsOrderRefusedOn g fresh hops) result later (λ H. next (Some H))
+LoadsSource g (CustomizedFile order hops) result later next =
+    Reads Which.Order order (λ bytes H. NamesCustomized g hops bytes H) (IsUncustomizable g) result later (λ H. next (Some H))
+LoadsSource g (FoundOrder hops) result later next = (IsErrAnd result (λ fault. fault ≡ RunFault.Memory) × later)
+    ⊎ ((H : LevelsAndLegs) × IsDissected g hops H × next (Some H))
 
 -- the run read a graph within the limits, and then what it needs for its hierarchy. `unread` says that this input is as it was
 abbrev pub Loads : {T : Type 0} → (graph : Reading) → (source : SourceReading) → (unread : Type 0) → Result T RunFault →

@@ -8,10 +8,14 @@ ghost use Rattle.ch_contract.specs.Built.{IsHierarchyBy};
 ghost use Rattle.ch_contract.specs.Like.{IsHierarchyLike, given_count};
 ghost use Rattle.ch_order.specs.Crowded.{HasCrowded};
 ghost use Rattle.ch_order.specs.declared.construction.like.LikeError.TheVariants as LikeErrorOf;
+ghost use Rattle.ch_order.specs.declared.construction.like.OrderError.TheVariants as OrderErrorOf;
+ghost use Rattle.ch_run.specs.Customized.{IsCustomizedIn, IsDissected};
 ghost use Rattle.ch_run.specs.Source.{IsBuiltToSave, IsInPlaceOf};
 
-use crate::plan::{Crew, Gate};
+use crate::plan::{Crew, Gate, Stage};
 use ch_contract::{Hierarchy, HopBound, OrderBy, Percent};
+use ch_custom::{TRIANGLES_A_NODE, TopologyError, customize, topology_of};
+use ch_dissect::dissect;
 use ch_graph::Graph;
 use ch_job::Options;
 use ch_order::{
@@ -87,5 +91,60 @@ pub(crate) fn build_in_order<R: Threads + Sync, G: Gate>(
         Ok(hierarchy) => Ok(hierarchy),
         Err(OrderError::Order) => Err(LikeError::Order),
         Err(OrderError::NoMemory) => Err(LikeError::NoMemory),
+    }
+}
+
+/// Returns the hierarchy of a graph that is customized in this order. If the order has more than [`TRIANGLES_A_NODE`]
+/// triangles a node, the hierarchy is built quickly instead, and a witness has at most `hops` legs.
+///
+/// # Errors
+/// `Order` if the order does not have each node of the graph exactly once, and `NoMemory` if there is no memory. The graph
+/// and the order are as before.
+#[tactic(auto, using(crate::proofs::Loading::customized_over, crate::proofs::Loading::built_instead))]
+pub(crate) fn customize_in<R: Threads + Sync, G: Gate>(
+    crew: &Crew<'_, R, G>,
+    graph: &Graph,
+    order: &[u32],
+    hops: HopBound,
+) -> Result<Hierarchy, OrderError>
+    ensures hierarchy { IfOk result (IsCustomizedIn graph.now hops.number order.now) }
+    ensures kept { IfOk result (IsKept graph.now) }
+    ensures refused { result ≡ Err OrderErrorOf.Order → IsOrderOf graph.now.nodes order.now → ⊥ }
+{
+    let most = TRIANGLES_A_NODE * graph.nodes() as u64;
+    match topology_of(crew.alloc, graph, order, most) {
+        Ok(topology) => {
+            // This call tells the proof that the order has each node once.
+            let _order = topology.order();
+            let hierarchy = customize(crew.alloc, &topology, graph)?;
+            Ok(hierarchy)
+        }
+        Err(TopologyError::Triangles) => {
+            let hierarchy = build_quickly(crew, graph, hops)?;
+            Ok(hierarchy)
+        }
+        Err(TopologyError::Order) => Err(OrderError::Order),
+        Err(TopologyError::NoMemory) => Err(OrderError::NoMemory),
+    }
+}
+
+/// Returns the hierarchy of a graph that is customized in a nested dissection order. See [`customize_in`].
+///
+/// # Errors
+/// `AllocError` if there is no memory. The graph is as before.
+pub(crate) fn customize_dissected<R: Threads + Sync, G: Gate>(
+    crew: &Crew<'_, R, G>,
+    graph: &Graph,
+    hops: HopBound,
+) -> Result<Hierarchy, AllocError>
+    ensures hierarchy { IfOk result (IsDissected graph.now hops.number) }
+    ensures kept { IfOk result (IsKept graph.now) }
+{
+    crew.gate.watch(Stage::Building, 0, graph.nodes());
+    let order = dissect(crew, graph)?;
+    match customize_in(crew, graph, &order, hops) {
+        Ok(hierarchy) => Ok(hierarchy),
+        // The order has each node once.
+        Err(_) => Err(AllocError),
     }
 }

@@ -5,6 +5,7 @@ use Rattle.ch_hierarchy.specs.Hierarchy.{LevelsAndLegs, IsLevelled}
 use Rattle.ch_contract.specs.Legs.{Legs}
 use Rattle.ch_contract.specs.Built.{IsHierarchyIn}
 use Rattle.ch_custom.specs.Customizing.{Lowers, IsPair, IsTopology}
+use Rattle.ch_custom.specs.Pruning.{IsCustomizedAndPruned}
 use Rattle.ch_custom.specs.Topologies.{OrderAndPairs}
 use Rattle.ch_custom.specs.Ancestors.{IsParent}
 use Rattle.ch_tree.specs.Tree.{IsTree}
@@ -39,8 +40,18 @@ TreesFit = (g : Network) (H : LevelsAndLegs) (order : List ℕ) (L : ℕ → Leg
     IsWithinLimits g → IsLevelled H →
     IsHierarchyIn (Lowers g.nodes) g H order L → IsTopology g order rows → AreParentsOf g.nodes order rows parents → IsTree H parents
 
+-- it is also a tree for what pruning leaves of such a hierarchy
+abbrev pub TreesFitPruned : Type 0
+TreesFitPruned = (g : Network) (P : LevelsAndLegs) (order : List ℕ) (rows : List (List ℕ)) (parents : List ℕ) → IsWithinLimits g →
+    IsCustomizedAndPruned g order P → IsTopology g order rows → AreParentsOf g.nodes order rows parents → IsTree P parents
+
 -- these are a tree for each hierarchy that is customized in the topology
 abbrev pub IsTreeOf : OrderAndPairs → List ℕ → Type 0
 IsTreeOf f parents = (g : Network) (H : LevelsAndLegs) (L : ℕ → Legs) → IsWithinLimits g → IsLevelled H →
     IsHierarchyIn (Lowers g.nodes) g H f.order L →
     IsTopology g f.order f.pairs → length f.pairs ≡ g.nodes → IsTree H parents
+
+-- they are also a tree for what pruning leaves of such a hierarchy
+abbrev pub IsTreeOfPruned : OrderAndPairs → List ℕ → Type 0
+IsTreeOfPruned f parents = (g : Network) (P : LevelsAndLegs) → IsWithinLimits g → IsCustomizedAndPruned g f.order P →
+    IsTopology g f.order f.pairs → length f.pairs ≡ g.nodes → IsTree P parents

@@ -7,10 +7,11 @@
 pub mod laws;
 mod parents;
 mod query;
+mod scratch;
 mod spaces;
 mod sweep;
 
 pub use parents::{tree_for, tree_of};
-pub use query::distance;
+pub use scratch::{TreeScratch, distance};
 pub use spaces::{ranked_space, ranked_spaces};
 pub use sweep::{NEVER, up_costs};

@@ -5,7 +5,7 @@ ghost use Rattle.ch_hierarchy.specs.Saved.{AreLevelsOf};
 ghost use Rattle.ch_custom.specs.Customizing.{AreClosed, IsTopology};
 ghost use Rattle.ch_custom.specs.Topologies.{IsSound, IsCustomized};
 ghost use Rattle.ch_tree.specs.Tree.{IsTree};
-ghost use Rattle.ch_tree.specs.Parents.{IsHighest, AreParentsIn, AreParentsOf, IsTreeOf};
+ghost use Rattle.ch_tree.specs.Parents.{IsHighest, AreParentsIn, AreParentsOf, IsTreeOf, IsTreeOfPruned};
 
 use ch_custom::Topology;
 use ch_graph::{Graph, Rows};
@@ -21,6 +21,7 @@ pub fn tree_of(alloc: Global, topology: &Topology) -> Result<Vec<u32>, AllocErro
     requires closed { AreClosed (length topology.now.pairs) topology.now.order topology.now.pairs }
     ensures parents { IfOk result (λ parents. AreParentsIn topology.now parents.items) }
     ensures fits { IfOk result (λ parents. IsTreeOf topology.now parents.items) }
+    ensures pruned { IfOk result (λ parents. IsTreeOfPruned topology.now parents.items) }
 {
     places_above(alloc, topology.order(), topology.levels(), topology.rows())
 }

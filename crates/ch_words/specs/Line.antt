@@ -84,9 +84,9 @@ within_rule = limit_rule (codes "within") 0 MOST_WEIGHT
 abbrev pub saved_rule : Rule
 saved_rule = option_rule (codes "saved")
 
--- `[--like FILE [--fresh P]]`
+-- `[--like FILE [--fresh P]] [--customizable]`
 abbrev pub like_rules : List Rule
-like_rules = option_rule (codes "like") ∷ limit_rule (codes "fresh") 0 100 ∷ []
+like_rules = option_rule (codes "like") ∷ limit_rule (codes "fresh") 0 100 ∷ flag_rule (codes "customizable") ∷ []
 
 -- `[--progress]`
 abbrev pub progress_rule : Rule
@@ -97,8 +97,8 @@ abbrev pub number_rules : List Rule
 number_rules = number_rule (codes "workers") MOST_WORKERS (codes "1") ∷ number_rule (codes "piece") MOST_PIECE (codes "64")
     ∷ number_rule (codes "hops") MOST_HOPS (codes "5") ∷ []
 
--- `[--like FILE [--fresh P]] [--workers N] [--piece K] [--hops H] [--progress]`, which each tool reads. Clap's form accepts `--like`
--- beside `--saved`, `--deep` and `--quick`, and the line refuses them
+-- `[--like FILE [--fresh P]] [--customizable] [--workers N] [--piece K] [--hops H] [--progress]`, which each tool reads. Clap's form
+-- accepts `--like` and `--customizable` beside `--saved`, `--deep` and `--quick`, and the line refuses them
 abbrev pub shared_rules : List Rule
 shared_rules = like_rules ++ number_rules ++ progress_rule ∷ []
 
@@ -222,13 +222,24 @@ like_in given plain = if plain then None else first_of (codes "like") given
 abbrev pub fresh_in : List Row → ℕ
 fresh_in given = unwrap_or (number_in given (codes "fresh")) 5
 
+-- whether the hierarchy is customized: if `--customizable` is given. Plain distances have no hierarchy
+abbrev pub IsCustomizableIn : List Row → (plain : Bool) → Bool → Type 0
+IsCustomizableIn given true flag = flag ≡ false
+IsCustomizableIn given false flag = IsFlagIn given (codes "customizable") flag
+
 -- the file for the hierarchy is the given one: a saved hierarchy, or an order with the given per cent and the bound on hops of these
--- options, or none
+-- options, or none. With `--customizable` there is no per cent
 abbrev pub IsSourceIn : List Row → Options → Source (String Global) → Type 0
 IsSourceIn given options Source.Built = (saved_in given options.plain ≡ None) × (like_in given options.plain ≡ None)
+    × IsCustomizableIn given options.plain false
 IsSourceIn given options (Source.Saved saved) = Some (string_bytes saved) ≡ saved_in given options.plain
 IsSourceIn given options (Source.Like order fresh hops) = (saved_in given options.plain ≡ None)
     × (Some (string_bytes order) ≡ like_in given options.plain) × (fresh.number ≡ fresh_in given) × (hops ≡ options.hops)
+    × IsCustomizableIn given options.plain false
+IsSourceIn given options (Source.Customized order hops) = (saved_in given options.plain ≡ None)
+    × (Some (string_bytes order) ≡ like_in given options.plain) × (hops ≡ options.hops) × IsCustomizableIn given options.plain true
+IsSourceIn given options (Source.Dissected hops) = (saved_in given options.plain ≡ None) × (like_in given options.plain ≡ None)
+    × (hops ≡ options.hops) × IsCustomizableIn given options.plain true
 
 -- whether a value is given for this name
 abbrev pub is_given : List Row → Text → Bool
@@ -240,6 +251,12 @@ IsUnmixed given =
     ((is_given given (codes "like") ≡ false) × (is_given given (codes "fresh") ≡ false))
     ⊎ ((is_given given (codes "like") ≡ true) × (is_given given (codes "saved") ≡ false) × IsFlagIn given (codes "deep") false
     × IsFlagIn given (codes "quick") false)
+
+-- `--customizable` is not given. Or it is, and none of `--saved`, `--fresh`, `--deep` and `--quick`
+abbrev pub IsCustomizableAlone : List Row → Type 0
+IsCustomizableAlone given = IsFlagIn given (codes "customizable") false
+    ⊎ (IsFlagIn given (codes "customizable") true × (is_given given (codes "saved") ≡ false) × (is_given given (codes "fresh") ≡ false)
+    × IsFlagIn given (codes "deep") false × IsFlagIn given (codes "quick") false)
 
 -- the order that the words choose: by depth with `--deep`, and by the difference without it
 abbrev pub IsOrderIn : List Row → OrderBy → Type 0
@@ -289,6 +306,7 @@ pub record IsGivenBy (given : List Row) (line : Line) : Type 0 where
   pub plan : IsPlanIn given line.job.plan
   pub progress : IsFlagIn given (codes "progress") line.progress
   pub unmixed : IsUnmixed given
+  pub customizable : IsCustomizableAlone given
 
 -- clap finds nothing wrong with the words. They name the tool for the question of the line, and give it the values that
 -- the line holds
@@ -368,6 +386,26 @@ IsMixMessage given message =
     ⊎ ((is_given given (codes "like") ≡ true) × (is_given given (codes "saved") ≡ false) × IsFlagIn given (codes "deep") false
     × IsFlagIn given (codes "quick") true × (message ≡ codes "the argument '--like' cannot be used with '--quick'"))
 
+-- `--customizable` is given beside `--saved`, `--fresh`, `--deep` or `--quick`
+abbrev pub IsCustomizableMixed : List Row → Type 0
+IsCustomizableMixed given = IsFlagIn given (codes "customizable") true × ((is_given given (codes "saved") ≡ true)
+    ⊎ (is_given given (codes "fresh") ≡ true) ⊎ IsFlagIn given (codes "deep") true ⊎ IsFlagIn given (codes "quick") true)
+
+-- why `--customizable` doesn't go with another option: the first of these reasons that is true
+abbrev pub IsCustomizableMessage : List Row → Text → Type 0
+IsCustomizableMessage given message =
+    ((is_given given (codes "saved") ≡ true) × (message ≡ codes "the argument '--customizable' cannot be used with '--saved'"))
+    ⊎ ((is_given given (codes "saved") ≡ false) × (is_given given (codes "fresh") ≡ true)
+    × (message ≡ codes "the argument '--customizable' cannot be used with '--fresh'"))
+    ⊎ ((is_given given (codes "saved") ≡ false) × (is_given given (codes "fresh") ≡ false) × IsFlagIn given (codes "deep") true
+    × (message ≡ codes "the argument '--customizable' cannot be used with '--deep'"))
+    ⊎ ((is_given given (codes "saved") ≡ false) × (is_given given (codes "fresh") ≡ false) × IsFlagIn given (codes "deep") false
+    × IsFlagIn given (codes "quick") true × (message ≡ codes "the argument '--customizable' cannot be used with '--quick'"))
+
+-- an order or `--customizable` is given beside options that don't go with it
+abbrev pub AreMixed : List Row → Type 0
+AreMixed given = IsMixed given ⊎ IsCustomizableMixed given
+
 -- the place among the words of the first value of an argument, if it has one
 abbrev pub place_of : Found → Text → Option ℕ
 place_of found name = option_and_then (λ a. slice_get a.indices.items 0) (matched_of found name)
@@ -382,16 +420,16 @@ IsOrdersMessage _ _ message = message ≡ codes "the argument '--deep' cannot be
 -- the words name a tool, with options that don't go together
 abbrev pub NamesMixed : Option (Text × List Row) → Type 0
 NamesMixed None = ⊥
-NamesMixed (Some (name, given)) = IsMixed given
+NamesMixed (Some (name, given)) = AreMixed given
 
 -- clap accepts the words of a tool. They are refused for options that don't go together, or there is no memory
 abbrev pub IsRefusedMix : List Row → LineFault → Type 0
 IsRefusedMix given (LineFault.Help _) = ⊥
-IsRefusedMix given (LineFault.Refused _) = IsMixed given
+IsRefusedMix given (LineFault.Refused _) = AreMixed given
 IsRefusedMix given LineFault.NoMemory = ⊤
 
 -- help and the version are reported only if the words ask for them. Words are refused only if clap finds another fault, or if it finds
--- none and the lists of `near` are wrong, both orders are given, or an order is mixed with other options
+-- none and the lists of `near` are wrong, both orders are given, or options are given that don't go together
 abbrev pub IsFaultOf : List Text → LineFault → Type 0
 IsFaultOf words (LineFault.Help _) = (kind : ErrorKind) × AsksForText kind × IsAmong kind (faults_of words)
 IsFaultOf words (LineFault.Refused _) =

@@ -7,7 +7,7 @@ ghost use Rattle.clap.specs.declared.error.kind.ErrorKind.TheVariants.{ArgumentC
 ghost use Rattle.ch_graph.specs.declared.limits.TheConstants.{MOST_WEIGHT};
 ghost use Rattle.ch_work.specs.Plan.{IsWithinLimits};
 ghost use Rattle.ch_job.specs.Job.{AreAllowed, IsCount};
-ghost use Rattle.ch_words.specs.Line.{AreFilesIn, AreFlagsIn, AreRefusedLists, AreRefusedOrders, IsAllowed, IsDirectionIn, IsFlagIn, IsGivenBy, IsMixMessage, IsMixed, IsOrderIn, IsOrdersMessage, IsQuickIn, IsPlanIn, IsRefusedMix, IsSourceIn, IsToldOf, IsUnmixed, fresh_in, is_given, name_of, number_in, place_of};
+ghost use Rattle.ch_words.specs.Line.{AreFilesIn, AreFlagsIn, AreRefusedLists, AreRefusedOrders, IsAllowed, IsCustomizableAlone, IsCustomizableMessage, IsCustomizableMixed, IsDirectionIn, IsFlagIn, IsGivenBy, IsMixMessage, IsMixed, IsOrderIn, IsOrdersMessage, IsQuickIn, IsPlanIn, IsRefusedMix, IsSourceIn, IsToldOf, IsUnmixed, fresh_in, is_given, name_of, number_in, place_of};
 
 use crate::fault::{LineFault, fault_of};
 use crate::form::{near_command, tool_command};
@@ -286,6 +286,33 @@ fn mix_of(matches: &ArgMatches<'_>) -> Option<&'static str>
     None
 }
 
+/// Returns why `--customizable` is mixed with other options, if it is: it goes with none of `--saved`, `--fresh`, `--deep`
+/// and `--quick`.
+fn customizable_mix_of(matches: &ArgMatches<'_>) -> Option<&'static str>
+    ensures none { IsNone result → IsCustomizableAlone (rows_of (found_of matches.now)) }
+    ensures some { IfSome result (λ _. IsCustomizableMixed (rows_of (found_of matches.now))) }
+    ensures message { IfSome result (λ message. IsCustomizableMessage (rows_of (found_of matches.now)) message.now) }
+{
+    if !flag_of(matches, "customizable") {
+        return None;
+    }
+    let has_saved = has_value(matches, "saved");
+    if has_saved {
+        return Some("the argument '--customizable' cannot be used with '--saved'");
+    }
+    let has_fresh = has_value(matches, "fresh");
+    if has_fresh {
+        return Some("the argument '--customizable' cannot be used with '--fresh'");
+    }
+    if flag_of(matches, "deep") {
+        return Some("the argument '--customizable' cannot be used with '--deep'");
+    }
+    if flag_of(matches, "quick") {
+        return Some("the argument '--customizable' cannot be used with '--quick'");
+    }
+    None
+}
+
 /// Returns the plan that the words give.
 fn plan_of(matches: &ArgMatches<'_>) -> Result<Plan, AllocError>
     ensures limits { IfOk result IsWithinLimits }
@@ -364,10 +391,11 @@ fn options_of(
     })
 }
 
-/// Returns where the hierarchy comes from: the file that is given, or the graph alone. Plain distances take no file.
+/// Returns where the hierarchy comes from: the file that is given, or the graph alone, and whether it is customized. Plain
+/// distances take no file.
 ///
 /// # Errors
-/// `Refused` if an order is mixed with other options; `NoMemory`.
+/// `Refused` if options are given that don't go together; `NoMemory`.
 fn source_of(
     alloc: Global,
     question: &Question<String>,
@@ -376,9 +404,13 @@ fn source_of(
 ) -> Result<Source<String>, LineFault>
     ensures given { IfOk result (IsSourceIn (rows_of (found_of matches.now)) options.now) }
     ensures unmixed { IfOk result (λ _. IsUnmixed (rows_of (found_of matches.now))) }
+    ensures customizable { IfOk result (λ _. IsCustomizableAlone (rows_of (found_of matches.now))) }
     ensures refused { IfErr result (IsRefusedMix (rows_of (found_of matches.now))) }
 {
     if let Some(message) = mix_of(matches) {
+        return Err(conflict(alloc, question, message));
+    }
+    if let Some(message) = customizable_mix_of(matches) {
         return Err(conflict(alloc, question, message));
     }
     if options.plain {
@@ -387,18 +419,25 @@ fn source_of(
     if let Some(saved) = file_given(alloc, matches, "saved")? {
         return Ok(Source::Saved(saved));
     }
+    let hops = options.hops;
+    let customizable = flag_of(matches, "customizable");
     let Some(order) = file_given(alloc, matches, "like")? else {
+        if customizable {
+            return Ok(Source::Dissected { hops });
+        }
         return Ok(Source::Built);
     };
+    if customizable {
+        return Ok(Source::Customized { order, hops });
+    }
     let fresh = fresh_given(matches)?;
-    let hops = options.hops;
     Ok(Source::Like { order, fresh, hops })
 }
 
 /// Returns the line of the tool of this name, with the values of its arguments.
 ///
 /// # Errors
-/// `Refused` for lists that `near` doesn't read, if both orders are given, and if an order is mixed with other options;
+/// `Refused` for lists that `near` doesn't read, if both orders are given, and if other options don't go together;
 /// `NoMemory`.
 pub fn line_of(alloc: Global, name: &str, matches: &ArgMatches<'_>) -> Result<Line, LineFault>
     ensures named { IfOk result (λ line. name.now ≡ name_of line.job.question) }

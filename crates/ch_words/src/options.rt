@@ -163,6 +163,16 @@ const FRESH: Row = Row {
     help: "With --like, order the last P per cent of the nodes afresh, by depth, from 0 to 100 [default: 5]",
 };
 
+/// Customize the hierarchy in a [nested dissection order](#orders), which the run finds, or with `--like` in the very
+/// order of FILE. Cannot be combined with `--saved`, `--fresh`, `--deep` or `--quick`.
+const CUSTOMIZABLE: Row = Row {
+    name: "customizable",
+    value: Value::Nothing,
+    help: "Customize the hierarchy in a nested dissection order, or with --like in the very order of FILE. If the \
+        order has more than 40 triangles a node, the hierarchy is built quickly. Cannot be combined with --saved, \
+        --fresh, --deep or --quick",
+};
+
 /// How many threads share the work.
 const WORKERS: Row = Row {
     name: "workers",
@@ -242,8 +252,8 @@ pub(crate) fn ask_options() -> [Row; 4]
 }
 
 /// Returns the options of all tools.
-pub(crate) fn shared_options() -> [Row; 6]
+pub(crate) fn shared_options() -> [Row; 7]
     ensures { rules_of result ≡ shared_rules }
 {
-    [LIKE, FRESH, WORKERS, PIECE, HOPS, PROGRESS]
+    [LIKE, FRESH, CUSTOMIZABLE, WORKERS, PIECE, HOPS, PROGRESS]
 }

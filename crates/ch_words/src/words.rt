@@ -12,8 +12,8 @@ use std::alloc::Global;
 /// Reads the words after the program's name: `dist [OPTION].. GRAPH QUERIES`,
 /// `table [OPTION].. GRAPH SOURCES TARGETS`, `near [OPTION].. GRAPH SOURCES TARGETS`,
 /// `near [OPTION].. --all GRAPH TARGETS`, `save [OPTION].. GRAPH` or `ask [OPTION].. GRAPH`, with the options of
-/// that tool. `--deep` and `--quick` don't go together, nor does `--like` go with these or with `--saved`, and
-/// `--fresh` needs `--like`.
+/// that tool. `--deep` and `--quick` don't go together, nor do `--like` and `--customizable` go with these or with
+/// `--saved`. `--fresh` needs `--like`, and doesn't go with `--customizable`.
 ///
 /// # Errors
 /// `Help` if the words ask for help or for the version; `Refused` if they don't have one of these forms; `NoMemory`.

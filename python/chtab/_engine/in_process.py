@@ -28,6 +28,9 @@ if TYPE_CHECKING:
 # table. Hardly any call then takes more than a second. With a time limit a table has smaller
 # blocks.
 PAIRS, ROUTES, SIDE, SHORT = 1 << 13, 1 << 11, 1 << 12, 1 << 10
+# The most pairs whose sums one call gives where the same nodes are in many of them, as in a table.
+# The library then searches once for each node, and not for each pair.
+SUMS, SHARED = 1 << 17, 3
 # How many cells of a table are worth a further thread, which searches from each target once more.
 WORTH = 1 << 20
 # The most pairs whose flows one call gives. Each call takes steps for all legs of the network,
@@ -45,6 +48,14 @@ def contents_of(path: str) -> bytes:
     """The bytes of a file."""
     with open(path, "rb") as file:
         return file.read()
+
+
+def share_nodes(sources: library.Nodes, targets: library.Nodes) -> bool:
+    """Whether pairs have so few sources and targets that trees of these pay."""
+    if len(sources) <= ROUTES:
+        return False
+    nodes = len(numpy.unique(sources)) + len(numpy.unique(targets))
+    return SHARED * nodes <= min(len(sources), SUMS)
 
 
 class OfThread(threading.local):
@@ -277,6 +288,21 @@ class InProcess:
         self.in_blocks(len(rows), len(columns), ask, "table", progress)
         return found
 
+    def table_sums(
+        self, sources: Integers, targets: Integers, values: NDArray[numpy.uint64],
+    ) -> tuple[Integers, NDArray[numpy.uint64]]:
+        """The weights of the routes from each source to each target (k, l), -1 for no walk, and the
+        sums of their values; 2^64 is refused."""
+        rows, columns = (library.nodes_of(nodes, self.nodes) for nodes in (sources, targets))
+        shape = len(rows), len(columns)
+        weights, sums = numpy.empty(shape, numpy.int64), numpy.empty(shape, numpy.uint64)
+
+        def ask(handle: library.Handle, some: tuple[slice, slice]) -> None:
+            weights[some], sums[some] = handle.table_sums(rows[some[0]], columns[some[1]], values)
+
+        self.in_blocks(len(rows), len(columns), ask, "table")
+        return weights, sums
+
     def in_blocks(
         self, rows: int, columns: int, call: Callable[[library.Handle, tuple[slice, slice]], None],
         name: str, progress: Asked = None,
@@ -331,7 +357,8 @@ class InProcess:
         def ask(handle: library.Handle, part: slice) -> None:
             weights[part], sums[part] = handle.route_sums(sources[part], targets[part], values)
 
-        self.in_parts(len(sources), ROUTES, ask, "routes", "pairs")
+        most = SUMS if share_nodes(sources, targets) else ROUTES
+        self.in_parts(len(sources), most, ask, "routes", "pairs")
         return weights, sums
 
     def flows(

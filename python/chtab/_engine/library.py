@@ -105,6 +105,7 @@ CALLS = {
     "chtab_route": (HANDLE, NUMBER_32, NUMBER_32, ctypes.POINTER(Found), *ARRAY),
     "chtab_routes": (HANDLE, *ARRAY, *ARRAY, COUNT, *ARRAY, *ARRAY, *ARRAY, *ARRAY),
     "chtab_route_sums": (HANDLE, *ARRAY, *ARRAY, *ARRAY, COUNT, *ARRAY, *ARRAY),
+    "chtab_table_sums": (HANDLE, *ARRAY, *ARRAY, *ARRAY, COUNT, *ARRAY, *ARRAY),
     "chtab_flows_table": (HANDLE, *ARRAY, *ARRAY, *ARRAY, COUNT, *ARRAY),
     "chtab_flows": (HANDLE, *ARRAY, *ARRAY, *ARRAY, COUNT, *ARRAY),
     "chtab_near_places": (HANDLE, NUMBER_32, *ARRAY, NUMBER_64, NUMBER_32),
@@ -379,6 +380,19 @@ class Handle(Opened):
             self.calls.chtab_route_sums, column(sources, NODE), column(targets, NODE),
             column(values, NUMBER), ctypes.byref(count), written(weights, numpy.int64),
             written(sums, NUMBER)))
+        return weights, sums
+
+    def table_sums(
+        self, sources: Nodes, targets: Nodes, values: Unsigned,
+    ) -> tuple[Integers, Unsigned]:
+        """The weights of the routes from each source to each target (k, l), -1 for no walk, and the
+        sums of their values (k, l)."""
+        shape, count = (len(sources), len(targets)), ctypes.c_uint64()
+        weights, sums = numpy.empty(shape, numpy.int64), numpy.empty(shape, NUMBER)
+        see_that_done(self.ask(
+            self.calls.chtab_table_sums, column(sources, NODE), column(targets, NODE),
+            column(values, NUMBER), ctypes.byref(count), written(weights.reshape(-1), numpy.int64),
+            written(sums.reshape(-1), NUMBER)))
         return weights, sums
 
     def flows(

@@ -45,6 +45,9 @@ class Numbers:
         if isinstance(given, numpy.ma.MaskedArray):
             given = columns.array_of(name, given)
         column = numpy.asarray(given)
+        if column.dtype == object and all(map(is_number, column.flat)):
+            # Such as a column of pandas whose type has missing values.
+            column = numpy.array(column.tolist()).reshape(column.shape)
         are_numbers = column.dtype.kind in "iu" or column.dtype.kind == "f" and is_whole(column)
         if column.size and not are_numbers:
             raise no_number(name, column, given)
@@ -75,6 +78,10 @@ class Numbers:
         return nodes
 
 
+def is_number(value: Any) -> bool:
+    return columns.is_integer(type(value)) or isinstance(value, float | numpy.floating)
+
+
 def is_whole(column: NDArray[Any]) -> bool:
     """Whether all numbers of a column of decimal numbers are whole."""
     return bool(numpy.isfinite(column).all() and (column == numpy.floor(column)).all())
@@ -86,8 +93,7 @@ def no_number(name: str, column: NDArray[Any], given: Any) -> DataFault:
     array = column if is_array else numpy.array(given, object)
     values = array.reshape(-1).tolist()
     are_whole = (
-        columns.is_integer(type(value))
-        or isinstance(value, float | numpy.floating) and float(value).is_integer()
+        columns.is_integer(type(value)) or is_number(value) and float(value).is_integer()
         for value in values)
     place = next((place for place, is_one in enumerate(are_whole) if not is_one), 0)
     text = f"{quoted(values[place])} is no node: a node is a whole number"

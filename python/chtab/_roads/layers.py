@@ -16,8 +16,10 @@ from chtab._engine import forks
 from chtab._engine.stamps import Stamps
 from chtab.errors import ChtabError
 from chtab._files import measures, node_labels
+from chtab._files.forms import columns
 from chtab._files.node_labels import fixed
 from chtab._roads import nearest
+from chtab._roads.bends import Bends, bends_in
 
 if TYPE_CHECKING:
     from chtab._engine.opening import Opening
@@ -190,7 +192,7 @@ class Layers:
     @Kept
     def row_labels(self) -> RowLabels:
         """What rows are called in the frame that the network was made of."""
-        from chtab._files import columns, row_index
+        from chtab._files import columns as given, row_index
         from chtab._roads.row_labels import RowLabels
 
         labelling = self.labelling
@@ -198,7 +200,7 @@ class Layers:
             # Version 1.1 kept neither the rows nor what they were called.
             is_known = labelling is None or labelling.rows is not None
             return RowLabels(None if is_known else row_index.UNKNOWN, self.row_count)
-        labels = columns.column_labels_in("index", labelling.row_labels)
+        labels = given.column_labels_in("index", labelling.row_labels)
         return RowLabels(labels, self.row_count)
 
     @of_files
@@ -247,18 +249,14 @@ class Layers:
         """The roads between nodes, as `snapping.Roads`."""
         from chtab._roads.snapping import Roads
 
-        return Roads(self.graph, self.coordinates, self.bends if self.paths["bends"] else None)
+        return Roads(self.graph, self.coordinates, self.bends)
 
     @of_files
-    def bends(self) -> dict[int, list[Point]]:
+    def bends(self) -> Bends:
         """The points of arcs between their ends; none without a file of these."""
         path = self.paths["bends"]
-        found = {} if path is None else files.read_bends(path)
-        arcs = files.count_arcs(self.path)
-        if max(found, default=0) >= arcs or min(found, default=0) < 0:
-            raise files.FileFault(
-                f"{path}: an arc is not from 1 to {arcs:,}: these are the points of another graph")
-        return found
+        found: list[Any] = [[], [], []] if path is None else columns(path, b"b", 3)[0]
+        return bends_in(found, files.count_arcs(self.path), str(path))
 
     def lines_of(self, starts: Integers, counts: Integers, arcs: Integers) -> list[list[Point]]:
         """The places along routes, with bends if known: route k has `counts[k]` of the arcs."""

@@ -185,7 +185,7 @@ def weights_of_ways(trips: Trips, starts: Spots, ends: Spots) -> Integers:
     """The weights of all ways from spot k to spot k (n, m + 1): by the nodes out of the first road
     and, for each, those into the last; then along a single road. `FAR` for none."""
     outs, ins = numpy.broadcast_arrays(starts.out_nodes[:, :, None], ends.in_nodes[:, None, :])
-    pairs = numpy.stack([outs, ins], axis=-1).reshape(len(outs), -1, 2)
+    pairs = numpy.stack([outs, ins], axis=-1).reshape(len(outs), outs[:1].size, 2)
     added = starts.out_weights[:, :, None] + ends.in_weights[:, None, :]
     added = added.reshape(pairs.shape[:2])
     is_there = (pairs > 0).all(axis=2)
@@ -243,14 +243,28 @@ def are_few(starts: Spots, ends: Spots) -> bool:
 
 def few_totals(trips: Trips, starts: Spots, ends: Spots, within: int | None) -> Integers:
     """The weights of all ways by nodes (w, k, l), at least `NOWHERE` where there is none."""
+    return few_ways(trips.engine.table(*few_nodes(starts, ends), within), starts, ends)
+
+
+def few_nodes(starts: Spots, ends: Spots) -> tuple[Integers, Integers]:
+    """The nodes where trips leave and arrive, spot after spot for each of a spot's nodes."""
     outs, ins = starts.out_nodes.T, ends.in_nodes.T
-    sources, targets = (numpy.maximum(nodes, 1).reshape(-1) for nodes in (outs, ins))
-    found = trips.engine.table(sources, targets, within)
+    return numpy.maximum(outs, 1).reshape(-1), numpy.maximum(ins, 1).reshape(-1)
+
+
+def few_ways(found: Integers, starts: Spots, ends: Spots) -> Integers:
+    """The weights of all ways (w, k, l) by those between these nodes, to which it adds."""
+    outs, ins = starts.out_nodes.T, ends.in_nodes.T
     found[found < 0] = NOWHERE
     found += numpy.where(outs > 0, starts.out_weights.T, NOWHERE).reshape(-1, 1)
     found += numpy.where(ins > 0, ends.in_weights.T, NOWHERE).reshape(-1)
-    ways = found.reshape(*outs.shape, *ins.shape).transpose(0, 2, 1, 3)
-    return ways.reshape(-1, len(starts), len(ends))
+    return by_ways(found, starts, ends)
+
+
+def by_ways(found: Any, starts: Spots, ends: Spots) -> Any:
+    """A table between these nodes by ways (w, k, l)."""
+    shape = *starts.out_nodes.T.shape, *ends.in_nodes.T.shape
+    return found.reshape(shape).transpose(0, 2, 1, 3).reshape(-1, len(starts), len(ends))
 
 
 def different_nodes(nodes: Integers) -> tuple[Integers, Integers]:

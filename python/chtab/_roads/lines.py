@@ -188,12 +188,13 @@ class Lines:
 
 
 def foot(
-    x: float, y: float, step: int, row: Sequence[float],
+    x: float, y: float, step: int, begin: Sequence[float], end: Sequence[float],
 ) -> tuple[float, int, float, tuple[float, float]]:
     """The nearest point of a step to one of the plane: distance squared, step, share, point."""
-    a, b, east, north, square = row
+    (a, b), (east, north) = begin, end
+    east, north = east - a, north - b
     u, v = x - a, y - b
-    share = min(max((east * u + north * v) / square, 0.0), 1.0)
+    share = min(max((east * u + north * v) / (east * east + north * north or 1), 0.0), 1.0)
     u, v = u - east * share, v - north * share
     return u * u + v * v, step, share, (a + east * share, b + north * share)
 
@@ -209,25 +210,19 @@ class Pieces:
     """The steps of lines, cut into pieces of at most a length, whose middles are in a k-d tree."""
 
     def __init__(self, lines: Lines) -> None:
-        plane = mercator(*lines.places.T)
+        plane = self.plane = numpy.ascontiguousarray(mercator(*lines.places.T))
         is_step = numpy.ones(len(plane), bool)
         is_step[lines.firsts[1:] - 1] = False
-        steps = numpy.flatnonzero(is_step)
         is_finite = numpy.isfinite(plane).all(axis=1)
-        steps = steps[is_finite[steps] & is_finite[steps + 1]]
-        ways = numpy.zeros_like(plane)
-        ways[steps] = plane[steps + 1] - plane[steps]
-        squares = ways[:, 0] * ways[:, 0] + ways[:, 1] * ways[:, 1]
-        # For each step where it starts, how far it leads east and north, and its length squared,
-        # 1 where it has none. All of a row is read together.
-        columns = plane, ways, numpy.where(squares > 0, squares, 1)
-        self.rows = numpy.ascontiguousarray(numpy.column_stack(columns))
-        lengths = numpy.sqrt(squares[steps])
+        is_step[:-1] &= is_finite[:-1] & is_finite[1:]
+        steps = numpy.flatnonzero(is_step)
+        ways = self.ways_of(steps)
+        lengths = numpy.sqrt(ways[:, 0] * ways[:, 0] + ways[:, 1] * ways[:, 1])
         most = lengths.mean() or 1.0
         counts = numpy.maximum(numpy.ceil(lengths / most), 1).astype(int)
         self.steps = numpy.repeat(steps, counts)
         shares = (ranges(numpy.zeros(len(steps), int), counts) + 0.5) / numpy.repeat(counts, counts)
-        self.middles = plane[self.steps] + ways[self.steps] * shares[:, None]
+        self.middles = self.at(self.steps, shares)
         self.tree = tree_of(self.middles)
         # The largest distance of a point of a piece from its middle.
         self.reach = float((lengths / counts).max() / 2)
@@ -267,8 +262,9 @@ class Pieces:
     ) -> tuple[float, int, float, Point]:
         """The nearest point to a place among those of some pieces, as `foot` gives it."""
         steps = self.steps.take(pieces)
-        rows = zip(steps.tolist(), self.rows.take(steps, axis=0).tolist())
-        return min(foot(place[0], place[1], step, row) for step, row in rows)
+        ends = (self.plane.take(some, axis=0).tolist() for some in (steps, steps + 1))
+        rows = zip(steps.tolist(), *ends)
+        return min(foot(place[0], place[1], *row) for row in rows)
 
     def is_unsure(self, apart: Any, farthest: Any) -> Any:
         """Whether a piece so far away may have a nearer point than one at a distance squared."""
@@ -281,7 +277,7 @@ class Pieces:
         along, apart = self.feet(among, places[:, None])
         least = apart.min(axis=1)
         # Of equally near steps the first.
-        firsts = numpy.where(apart == least[:, None], among, len(self.rows)).argmin(axis=1)
+        firsts = numpy.where(apart == least[:, None], among, len(self.plane)).argmin(axis=1)
         best = firsts + count * numpy.arange(len(places))
         are_all = count == len(self.steps)
         unsure = numpy.flatnonzero(self.is_unsure(least, distances[:, -1]) & (not are_all))
@@ -289,15 +285,21 @@ class Pieces:
 
     def feet(self, steps: Integers, places: Floats) -> tuple[Floats, Floats]:
         """The nearest points of steps to places, one for each: shares, distances squared."""
-        rows = self.rows.take(steps, axis=0)
-        east, north = rows[..., 2], rows[..., 3]
-        x, y = places[..., 0] - rows[..., 0], places[..., 1] - rows[..., 1]
-        shares = numpy.minimum(numpy.maximum((east * x + north * y) / rows[..., 4], 0), 1)
+        begins, ways = self.plane.take(steps, axis=0), self.ways_of(steps)
+        east, north = ways[..., 0], ways[..., 1]
+        x, y = places[..., 0] - begins[..., 0], places[..., 1] - begins[..., 1]
+        squares = east * east + north * north
+        squares[squares == 0] = 1
+        shares = numpy.minimum(numpy.maximum((east * x + north * y) / squares, 0), 1)
         x, y = x - east * shares, y - north * shares
         apart: Any = x * x + y * y
         return shares, apart
 
     def at(self, steps: Integers, shares: Floats) -> Floats:
         """The points of the plane so far along steps."""
-        rows = self.rows.take(steps, axis=0)
-        return rows[:, :2] + rows[:, 2:4] * shares[:, None]
+        found: Floats = self.plane.take(steps, axis=0) + self.ways_of(steps) * shares[:, None]
+        return found
+
+    def ways_of(self, steps: Integers) -> Floats:
+        """How far steps lead east and north in the plane."""
+        return self.plane.take(steps + 1, axis=0) - self.plane.take(steps, axis=0)

@@ -35,10 +35,11 @@ FEW = 8
 
 def samples(network_roads: Roads, times: Integers, spacing: float) -> tuple[Floats, Floats]:
     """Points of roads in the plane, at most `spacing` apart, and the weights up to there."""
-    arcs, ends, parts = network_roads.segments()
+    are_reached = (network_roads.road_of != NONE) & (times[network_roads.tails - 1] >= 0)
+    arcs, ends, parts = network_roads.segments(are_reached.nonzero()[0])
+    kept = ~numpy.isnan(ends).any(axis=1)
+    arcs, ends, parts = arcs[kept], ends[kept], parts[kept]
     firsts = times[network_roads.tails[arcs] - 1]
-    kept = (firsts >= 0) & ~numpy.isnan(ends).any(axis=1)
-    arcs, ends, parts, firsts = arcs[kept], ends[kept], parts[kept], firsts[kept]
     starts, stops = mercator(*ends[:, :2].T), mercator(*ends[:, 2:].T)
     lengths = numpy.hypot(*(stops - starts).T)
     counts = numpy.maximum(1, numpy.ceil(lengths / spacing)).astype(int) + 1

@@ -141,6 +141,7 @@ class Given(NamedTuple):
                 f"closed is a list: [{closed!r}] is one arc, and {[*closed]!r} are rows", "closed")
         column = mask_in(closed)
         if column is None:
+            self.see_that_no_flags(closed)
             is_closed[self.names.of("closed", closed).items] = True
             return is_closed
         if not hasattr(closed, "iloc") or column.ndim != 1:
@@ -155,6 +156,14 @@ class Given(NamedTuple):
         self.see_that_once("closed", closed.index)
         is_closed[found.items[column[found.places]]] = True
         return is_closed
+
+    def see_that_no_flags(self, closed: Any) -> None:
+        """Refuses 0 or 1 for each row, because as names they are the rows 0 and 1."""
+        flags = list(closed) if hasattr(closed, "__len__") and len(closed) == self.row_count else []
+        are_flags = all(columns.is_integer(type(each)) and each in (0, 1) for each in flags)
+        if are_flags and len(flags) > len({*flags}):
+            text = "closed has 0 or 1 for each row, and numbers name rows: `== 1` marks rows"
+            raise DataFault(text, "closed")
 
     def see_that_rows(self, name: str, column: NDArray[Any]) -> None:
         """Refuses a column that has not one value for each row."""
@@ -280,7 +289,7 @@ class Given(NamedTuple):
         """The bends of the kept arcs, by their new numbers, and those of the new arcs."""
         numbers = numpy.cumsum(kept) - 1
         bends = {
-            int(numbers[arc]): points for arc, points in self.layers.bends.items() if kept[arc]}
+            int(numbers[arc]): points for arc, points in self.layers.bends.of_arcs() if kept[arc]}
         if new.lines is None:
             return bends
         coordinates = self.layers.coordinates

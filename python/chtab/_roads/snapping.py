@@ -11,7 +11,7 @@ from __future__ import annotations
 import hashlib
 import math
 import numbers
-from collections.abc import Iterator, Mapping, Sequence
+from collections.abc import Iterator, Sequence
 from dataclasses import dataclass, replace
 from typing import TYPE_CHECKING, Any, NamedTuple
 
@@ -23,14 +23,16 @@ from chtab._files import row_index
 from chtab._files.columns import degrees_in, see_that_long, quoted
 from chtab._files.showing import SHOWN, table_of
 from chtab._roads import sphere
+from chtab._roads.bends import roads_of
 from chtab._roads.leaving import NONE, Few, both_ways, ways_of
 from chtab._roads.lines import Lines, metres_between
 
 if TYPE_CHECKING:
     from numpy.typing import NDArray
     from chtab import files
+    from chtab._roads.bends import Bends
     from chtab._roads.lines import OnLine
-    from chtab.typing import Column, Floats, Integers, Marks, Point
+    from chtab.typing import Column, Floats, Integers, Marks
 
 # The directions along a road in which trips may leave a spot and arrive at it, as a set of bits.
 FORWARD, BACKWARD = 1, 2
@@ -178,17 +180,13 @@ def digest_of(*columns: NDArray[Any]) -> bytes:
 class Roads:
     """The roads of a graph, from the nodes `firsts` to `lasts`, and their `lines`."""
 
-    def __init__(
-        self, graph: files.Graph, coordinates: files.Coordinates,
-        bends: Mapping[int, Sequence[Point]] | None = None,
-    ) -> None:
+    def __init__(self, graph: files.Graph, coordinates: files.Coordinates, bends: Bends) -> None:
         self.tails, self.heads, self.weights = (
-            numpy.array(column, numpy.int64) for column in graph[1:4])
+            numpy.asarray(column, numpy.int64) for column in graph[1:4])
         self.ends = coordinates.ends()
         known = numpy.column_stack([coordinates.longitudes, coordinates.latitudes])
         self.places = numpy.full((graph.nodes, 2), numpy.nan)
         self.places[:len(known)] = known[:graph.nodes]
-        self.pieces: tuple[Integers, Floats, Floats] | None = None
         self.lengths: NDArray[numpy.uint64] | None = None
         crossing = numpy.arange(graph.nodes + 1)
         for copy, node in coordinates.copies().items():
@@ -196,7 +194,7 @@ class Roads:
         # The road of each arc, or NONE, and whether the arc leads back along it.
         self.road_of = numpy.full(len(self.tails), NONE)
         self.is_back = crossing[self.tails] > crossing[self.heads]
-        self.find_roads(crossing[self.tails], crossing[self.heads], {} if bends is None else bends)
+        self.find_roads(crossing[self.tails], crossing[self.heads], bends)
         self.find_ways()
         own = (
             self.tails, self.heads, self.weights, self.firsts, self.lasts, self.places,
@@ -206,23 +204,27 @@ class Roads:
         lines = self.lines.places, self.lines.firsts, *self.ways[:2]
         self.origin = Origin(digest_of(*own, *lines), digest_of(self.places))
 
-    def find_roads(
-        self, tails: Integers, heads: Integers, bends: Mapping[int, Sequence[Point]],
-    ) -> None:
+    def find_roads(self, tails: Integers, heads: Integers, bends: Bends) -> None:
         """Finds the roads by the crossings at both ends of arcs, those without bends first."""
-        bent = {arc: points for arc, points in bends.items() if arc < len(tails)}
-        firsts, lasts = self.straight(tails, heads, list(bent))
-        more = self.bent(tails, heads, bent, len(firsts))
-        self.firsts, self.lasts = numpy.append(firsts, more[0]), numpy.append(lasts, more[1])
-        counts = numpy.append(numpy.full(len(firsts), 2), more[2])
+        bent = bends.arcs
+        firsts, lasts = self.straight(tails, heads, bent)
+        numbers, self.is_back[bent], lines = roads_of(tails[bent], heads[bent], bends)
+        self.road_of[bent] = len(firsts) + numbers
+        # The first arc of each road with bends says where it leads.
+        chosen = numpy.unique(numbers, return_index=True)[1]
+        ends, inner = (tails[bent[chosen]], heads[bent[chosen]]), bends.counts[chosen]
+        self.firsts = numpy.append(firsts, numpy.minimum(*ends))
+        self.lasts = numpy.append(lasts, numpy.maximum(*ends))
+        counts = numpy.append(numpy.full(len(firsts), 2), inner + 2)
         places, at = numpy.empty((counts.sum(), 2)), numpy.cumsum(counts) - counts
         places[at] = self.places[self.firsts - 1]
         places[at + counts - 1] = self.places[self.lasts - 1]
-        places[ranges(at + 1, counts - 2)] = more[3]
+        starts = (numpy.cumsum(bends.counts) - bends.counts)[chosen]
+        places[ranges(at + 1, counts - 2)] = lines[ranges(starts, inner)]
         self.lines = Lines(counts, places)
 
     def straight(
-        self, tails: Integers, heads: Integers, bent: list[int],
+        self, tails: Integers, heads: Integers, bent: Integers,
     ) -> tuple[Integers, Integers]:
         """The ends of roads of arcs without bends, each pair of crossings once."""
         kept = tails != heads
@@ -230,22 +232,6 @@ class Roads:
         low, high = numpy.minimum(tails, heads)[kept], numpy.maximum(tails, heads)[kept]
         keys, self.road_of[kept] = numpy.unique(low << 32 | high, return_inverse=True)
         return keys >> 32, keys & 0xFFFFFFFF
-
-    def bent(
-        self, tails: Integers, heads: Integers, bends: Mapping[int, Sequence[Point]], before: int,
-    ) -> tuple[Integers, Integers, Integers, Floats]:
-        """The roads of arcs with bends, shared by opposite ones: ends, counts, and bends."""
-        roads: dict[tuple[Any, ...], int] = {}
-        for arc, given in bends.items():
-            tail, head, points, back = int(tails[arc]), int(heads[arc]), [*given], [*given][::-1]
-            is_back = tail > head or tail == head and points > back
-            key = (head, tail, *back) if is_back else (tail, head, *points)
-            self.road_of[arc] = roads.setdefault(key, before + len(roads))
-            self.is_back[arc] = is_back
-        ends = numpy.array([key[:2] for key in roads], numpy.int64).reshape(-1, 2)
-        counts = numpy.array([len(key) for key in roads], numpy.int64)
-        places = numpy.array([point for key in roads for point in key[2:]], numpy.float64)
-        return ends[:, 0], ends[:, 1], counts, places.reshape(-1, 2)
 
     def find_ways(self) -> None:
         """Finds the nodes where trips leave roads and arrive, and the least weights both ways."""
@@ -447,17 +433,15 @@ class Roads:
         parts = (places[first:last] for first, last in zip(firsts, firsts[1:]))
         return [numpy.vstack(each) for each in zip(begins, parts, ends)]
 
-    def segments(self) -> tuple[Integers, Floats, Floats]:
-        """The straight pieces of arcs along roads: arcs, ends (n, 4), parts of these (n, 2)."""
-        if self.pieces is None:
-            arcs = numpy.flatnonzero(self.road_of != NONE)
-            roads, lines = self.road_of[arcs], self.lines
-            counts = lines.firsts[roads + 1] - lines.firsts[roads] - 1
-            steps = ranges(lines.firsts[roads], counts)
-            is_back = numpy.repeat(self.is_back[arcs], counts)[:, None]
-            ends = numpy.hstack([lines.places[steps], lines.places[steps + 1]])
-            parts = numpy.column_stack([lines.parts[steps], lines.parts[steps + 1]])
-            ends = numpy.where(is_back, ends[:, [2, 3, 0, 1]], ends)
-            parts = numpy.where(is_back, 1 - parts[:, ::-1], parts)
-            self.pieces = numpy.repeat(arcs, counts), ends, parts
-        return self.pieces
+    def segments(self, arcs: Integers | None = None) -> tuple[Integers, Floats, Floats]:
+        """The straight pieces of arcs, or of all, along roads: arcs, ends (n, 4), parts (n, 2)."""
+        arcs = (self.road_of != NONE).nonzero()[0] if arcs is None else arcs
+        roads, lines = self.road_of[arcs], self.lines
+        counts = lines.firsts[roads + 1] - lines.firsts[roads] - 1
+        steps = ranges(lines.firsts[roads], counts)
+        is_back = numpy.repeat(self.is_back[arcs], counts)[:, None]
+        ends = numpy.hstack([lines.places[steps], lines.places[steps + 1]])
+        parts = numpy.column_stack([lines.parts[steps], lines.parts[steps + 1]])
+        ends = numpy.where(is_back, ends[:, [2, 3, 0, 1]], ends)
+        parts = numpy.where(is_back, 1 - parts[:, ::-1], parts)
+        return numpy.repeat(arcs, counts), ends, parts

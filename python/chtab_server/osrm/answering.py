@@ -3,7 +3,7 @@ from __future__ import annotations
 
 import copy
 import json
-from collections.abc import Sequence
+from collections.abc import Iterator, Sequence
 from typing import TYPE_CHECKING, Any, NamedTuple
 
 import numpy
@@ -13,7 +13,8 @@ from chtab._roads.legs import FAR, legs_between, legs_by, table_ways
 from chtab._roads.lines import metres_between
 from chtab._roads.snapping import length_text
 from chtab_server.osrm import (
-    alternatives, cells, curb, lone, matching, nearby, options, tables, telling, tours, url)
+    alternatives, cells, curb, lone, matching, nearby, options, small_tables, tables, telling,
+    tours, url)
 from chtab_server.osrm.crossings import Crossings
 from chtab_server.osrm.drawing import Drawing
 from chtab_server.osrm.options import Refusal
@@ -31,8 +32,6 @@ if TYPE_CHECKING:
 # OSRM's names of the ways of travelling.
 MODES = {"car": "driving", "bicycle": "cycling", "foot": "walking"}
 NO_ROUTE = "no way leads over the coordinates in this order"
-# How many cells of a table have their routes asked for together.
-BATCH = 2_048
 MILLISECONDS = 1_000
 # Tenths of a metre in a metre: answers give one digit after the decimal point.
 TENTHS = 10
@@ -360,14 +359,38 @@ class Answers:
     # Tables.
 
     def tables(self, questions: Sequence[Question]) -> list[str | Refusal]:
-        """The answers to questions for tables, as texts or faults."""
-        found: list[str | Refusal] = []
-        for question in questions:
-            try:
-                found.append(self.table(question))
-            except Refusal as fault:
-                found.append(fault)
-        return found
+        """The answers to questions for tables, as texts or faults. Small ones of as many places are
+        found together."""
+        sizes: dict[int, list[int]] = {}
+        found: dict[int, str | Refusal] = {}
+        for place, question in enumerate(questions):
+            if self.is_small(question):
+                sizes.setdefault(len(question.coordinates), []).append(place)
+        for count, which in sizes.items():
+            if len(which) > 1:
+                own = [questions[place] for place in which]
+                found |= zip(which, self.small_tables(own, count))
+        for place, question in enumerate(questions):
+            if place not in found:
+                try:
+                    found[place] = self.table(question)
+                except Refusal as fault:
+                    found[place] = fault
+        return [found[place] for place in range(len(questions))]
+
+    def is_small(self, question: Question) -> bool:
+        """Whether a question for a table may be answered together with others."""
+        count = len(question.coordinates)
+        return small_tables.is_small(question.general, question.own, count, self.network.roads)
+
+    def small_tables(self, questions: Sequence[Question], count: int) -> Iterator[str]:
+        """The answers to questions for small tables of so many places each."""
+        spots, waypoints = self.places.found(coordinates_of(questions))
+        rows = small_tables.rows_of(self.network._trips, spots, count)
+        for place, (question, text) in enumerate(zip(questions, rows)):
+            listed = objects(waypoints[place * count:(place + 1) * count], question.general)
+            more = "" if listed is None else f', "sources": {listed}, "destinations": {listed}'
+            yield f'{{"code": "Ok", "durations": {text}{more}}}'
 
     def table(self, question: Question) -> str:
         """The durations of a table, the metres of the routes that these are of, or both."""
@@ -387,9 +410,9 @@ class Answers:
             parts.append(f'"fallback_speed_cells": {json.dumps(missing)}')
         if own.has_durations:
             scaled = best if own.scale == 1 else best * own.scale
-            parts.append(f'"durations": {rows_of(scaled, 3, is_there)}')
+            parts.append(f'"durations": {cells.rows_of(scaled, 3, is_there)}')
         if metres is not None:
-            parts.append(f'"distances": {rows_of(metres * TENTHS, 1, is_there)}')
+            parts.append(f'"distances": {cells.rows_of(metres * TENTHS, 1, is_there)}')
         if general.has_waypoints:
             for name, some in ("sources", own.sources), ("destinations", own.destinations):
                 parts.append(f'"{name}": {objects([waypoints[place] for place in some], general)}')
@@ -402,19 +425,7 @@ class Answers:
         they are asked for."""
         if not has_metres:
             return tables.table_weights(self.network._trips, starts, ends), None
-        best, ways = table_ways(self.network._trips, starts, ends)
-        return best, self.metres(starts, ends, best, ways)
-
-    def metres(self, starts: Spots, ends: Spots, best: Integers, ways: Integers) -> Floats:
-        """The metres of the route of each cell, if it has one."""
-        rows, columns = numpy.nonzero(best < FAR)
-        metres = numpy.zeros(best.shape)
-        for first in range(0, len(rows), BATCH):
-            row, column = rows[first:first + BATCH], columns[first:first + BATCH]
-            metres[row, column] = tables.metres_by(
-                self.network._trips, starts, row, ends, column, best[row, column],
-                ways[row, column])
-        return metres
+        return tables.weights_and_metres(self.network._trips, starts, ends)
 
     # The nearest roads.
 
@@ -489,21 +500,6 @@ def nearest_answer(insides: Sequence[str], general: options.General) -> str:
     """The text of an answer with waypoints alone."""
     listed = objects(insides, general)
     return '{"code": "Ok"}' if listed is None else f'{{"code": "Ok", "waypoints": {listed}}}'
-
-
-def rows_of(numbers: Any, digits: int, is_there: Marks) -> str:
-    """The rows of a table as a text of JSON: numbers of which so many digits lie behind the point,
-    null where there is no way."""
-    if numbers.max(initial=0, where=is_there) < cells.MOST:
-        are_integers = numbers.dtype.kind != "f"
-        return cells.rows(
-            numbers if are_integers
-            else numpy.rint(numpy.where(is_there, numbers, 0)).astype(numpy.int64), digits,
-            is_there)
-    rounded = (numbers / 10**digits).round(digits)
-    return json.dumps([
-        [cell if is_way else None for cell, is_way in zip(*row)]
-        for row in zip(rounded.tolist(), is_there.tolist())])
 
 
 # Where coordinates were taken to.

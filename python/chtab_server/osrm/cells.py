@@ -7,8 +7,9 @@ behind the point. Letters that are not written are zeros, which are left out at 
 from __future__ import annotations
 
 import functools
+import json
 from collections.abc import Iterable
-from typing import TYPE_CHECKING
+from typing import TYPE_CHECKING, Any
 
 import numpy
 
@@ -46,6 +47,11 @@ BETWEEN, BEHIND_ROW, NULL = words([", ", "], [", "null"])
 def rows(numbers: Integers, digits: int, is_there: Marks) -> str:
     """The text of a table of at least one cell: whole numbers (n, m) from 0 to `MOST`, of each of
     which the last digits, so many, lie behind the point; null where nothing is there."""
+    return tables(numbers[None], digits, is_there[None])[0]
+
+
+def tables(numbers: Integers, digits: int, is_there: Marks) -> list[str]:
+    """The texts of several tables of one size (k, n, m)."""
     is_complete = bool(is_there.all())
     rest, behind = numpy.divmod(
         numbers if is_complete else numpy.where(is_there, numbers, 0), 10**digits)
@@ -62,6 +68,21 @@ def rows(numbers: Integers, digits: int, is_there: Marks) -> str:
         letters[~is_there] = 0
         letters[~is_there, 0] = NULL
     letters[..., -1] = BETWEEN
-    letters[:, -1, -1] = BEHIND_ROW
-    text = letters.tobytes().translate(None, b"\0").decode("ascii")
-    return f"[[{text[:-3]}]"
+    letters[:, :, -1, -1] = BEHIND_ROW
+    texts = [each.tobytes().translate(None, b"\0").decode("ascii") for each in letters]
+    return [f"[[{text[:-3]}]" for text in texts]
+
+
+def rows_of(numbers: Any, digits: int, is_there: Marks) -> str:
+    """The rows of a table as a text of JSON: numbers of which so many digits lie behind the point,
+    null where there is no way."""
+    if numbers.max(initial=0, where=is_there) < MOST:
+        are_integers = numbers.dtype.kind != "f"
+        return rows(
+            numbers if are_integers
+            else numpy.rint(numpy.where(is_there, numbers, 0)).astype(numpy.int64), digits,
+            is_there)
+    rounded = (numbers / 10**digits).round(digits)
+    return json.dumps([
+        [cell if is_way else None for cell, is_way in zip(*row)]
+        for row in zip(rounded.tolist(), is_there.tolist())])

@@ -4,11 +4,13 @@ from __future__ import annotations
 
 from typing import TYPE_CHECKING
 
+import numpy
+
 from chtab_server.osrm.maneuvers import CONTINUE, END_OF_ROAD, NEW_NAME, SILENT, TURN
 
 if TYPE_CHECKING:
     from chtab_server.osrm.rides import Passages, Pieces
-    from chtab.typing import Floats
+    from chtab.typing import Floats, Integers, Marks
 
 # The maneuvers with which a new name is joined, and the metres within which it is.
 JOINING, NEAR = (TURN, CONTINUE, END_OF_ROAD), 30.0
@@ -22,32 +24,28 @@ def joined(passages: Passages, pieces: Pieces, metres: Floats) -> tuple[Passages
     if not (kinds == NEW_NAME).any():
         return passages, {}
     acting = (kinds != SILENT).nonzero()[0]
-    before = passages.before[acting]
-    at, legs = metres[pieces.numbers[before]].tolist(), pieces.legs[before].tolist()
-    streets, doing = pieces.streets[before + 1].tolist(), kinds[acting].tolist()
-    is_back = (pieces.ends[before] ^ 1 == pieces.ends[before + 1]).tolist()
-    found: dict[int, int] = {}
-    dropped: list[int] = []
-    turn = -1
-
-    def may_join(place: int, other: int) -> bool:
-        """Whether the new name at one place is joined with what is done at another."""
-        is_near = (
-            0 <= other < len(doing) and legs[place] == legs[other]
-            and abs(at[place] - at[other]) < NEAR)
-        return is_near and doing[other] in JOINING and not is_back[other]
-
-    for place, kind in enumerate(doing):
-        if kind != NEW_NAME:
-            turn = place
-        elif turn >= 0 and may_join(place, turn):
-            found[int(acting[turn])] = streets[place]
-            dropped.append(place)
-        elif may_join(place, place + 1):
-            found[int(acting[place + 1])] = streets[place + 1]
-            dropped.append(place)
-        else:
-            turn = -1
+    before, doing = passages.before[acting], kinds[acting]
+    streets, numbers = pieces.streets[before + 1], numpy.arange(len(acting))
+    is_new, lasts = doing == NEW_NAME, (pieces.ends[before] ^ 1, pieces.ends[before + 1])
+    columns = pieces.legs[before], metres[pieces.numbers[before]], lasts[0] != lasts[1]
+    # The last maneuver before each new name that is none, and the one right behind it.
+    turn = numpy.maximum.accumulate(numpy.where(is_new, -1, numbers))
+    is_behind = is_new & may_join(doing, *columns, turn)
+    is_ahead = is_new & ~is_behind & may_join(doing, *columns, numbers + 1)
+    ahead, behind = is_ahead.nonzero()[0], is_behind.nonzero()[0]
+    found = dict(zip(acting[ahead + 1].tolist(), streets[ahead + 1].tolist()))
+    found |= zip(acting[turn[behind]].tolist(), streets[behind].tolist())
     kept = kinds.copy()
-    kept[acting[dropped]] = SILENT
+    kept[acting[is_behind | is_ahead]] = SILENT
     return passages._replace(kinds=kept), found
+
+
+def may_join(
+    doing: Integers, legs: Integers, metres: Floats, leads_on: Marks, others: Integers,
+) -> Marks:
+    """Whether each maneuver may be joined with another: with one of `JOINING` near it on its leg,
+    that does not lead back."""
+    is_there = (others >= 0) & (others < len(doing))
+    others = numpy.where(is_there, others, 0)
+    is_near = (legs == legs[others]) & (abs(metres - metres[others]) < NEAR)
+    return is_there & is_near & leads_on[others] & numpy.isin(doing[others], JOINING)

@@ -71,8 +71,8 @@ def find_facing(
 
 def facing(roads: Roads, steps: Integers, bearing: float, within: float) -> Integers:
     """For each step of a line, the open directions along its road that lead in a direction."""
-    rows = roads.lines.index.rows.take(steps, axis=0)
-    leads = numpy.degrees(numpy.arctan2(rows[:, 2], rows[:, 3])) % 360
+    ways = roads.lines.index.ways_of(steps)
+    leads = numpy.degrees(numpy.arctan2(ways[:, 0], ways[:, 1])) % 360
     numbers = numpy.searchsorted(roads.lines.firsts, steps, "right") - 1
     found = numpy.zeros(len(steps), numpy.int64)
     for side, off, weights in (FORWARD, 0, roads.forward), (BACKWARD, 180, roads.backward):

@@ -22,6 +22,9 @@ NUMBER = r"[+-]?(?:\d+(?:\.\d*)?|\.\d+)"
 COORDINATE = re.compile(f"({NUMBER}),({NUMBER})", re.ASCII)
 COORDINATES = re.compile(f"{NUMBER},{NUMBER}(?:;{NUMBER},{NUMBER})*", re.ASCII)
 POLYLINE = re.compile(r"polyline(6?)\((.*)\)", re.DOTALL)
+# An address as most clients send it, of which no part has an escape or another suffix.
+USUAL = re.compile(
+    rf"/({'|'.join(SERVICES)})/{VERSION}/([\w-]+)/([\d.,;+-]+)(?:\?([^%#]*))?", re.ASCII)
 
 
 class Words(NamedTuple):
@@ -38,6 +41,10 @@ def words_of(target: str, most: int) -> Words:
     """The words of a request's target, which has at most so many characters."""
     if len(target) > most:
         raise Refusal("TooBig", f"an address has at most {most:,} characters")
+    usual = USUAL.fullmatch(target)
+    if usual:
+        service, profile, coordinates, query = usual.groups("")
+        return Words(service, profile, coordinates, query)
     path, _, query = ABSOLUTE.sub("", target, 1).partition("?")
     before, *parts = path.split("/")
     service = text_of(parts[0]) if parts else ""

@@ -2,6 +2,7 @@
 ghost use Rattle.std.specs.Prelude.{◌≤◌};
 ghost use Rattle.ch_contract.specs.ShortcutLists.{AreTouching};
 ghost use Rattle.ch_contract.specs.KnownCosts.{AreLegsUpTo};
+ghost use Rattle.ch_contract.specs.Legs.{AreLegsWithin};
 ghost use Rattle.ch_contract.specs.Remaining.{legs_of};
 
 use crate::held_cost::HeldCost;
@@ -32,6 +33,7 @@ pub(crate) struct Judging<'a, K: HeldCost> {
     pub(crate) touching: Touching<'a>,
     pub(crate) hops: HopBound,
     pub(crate) form: PhantomData<K>,
+    ghost within: { AreLegsWithin remaining.now.nodes (legs_of remaining.now) },
     ghost light: { AreLegsUpTo K.limit (legs_of remaining.now) },
     ghost touches: { AreTouching remaining.now.nodes K.limit touching.node touching.up.now touching.down.now },
 }
@@ -40,25 +42,30 @@ impl<'a, K: HeldCost> Judging<'a, K> {
     ghost use Rattle.std.specs.Prelude.{◌≡◌, ◌+◌, Some, OnOk};
     ghost use Rattle.ch_contract.specs.Legs.{Legs, IsLegWithin};
     ghost use Rattle.ch_contract.specs.LegRows.{label_of};
-    ghost use Rattle.ch_contract.specs.ShortcutLists.{legs_touching, AreShortcutsAmong, AreShortcutsBefore, IsShortcutBetween};
+    ghost use Rattle.ch_contract.specs.ShortcutLists.{legs_touching, AreShortcutsAmong, AreShortcutsBefore, AreUpTo, IsShortcutBetween};
     ghost use Rattle.ch_contract.specs.HeldCosts.{IsHeld};
     ghost use Rattle.ch_contract.specs.KnownCosts.{known_of, IsClean};
     ghost use Rattle.ch_contract.specs.Candidates.{IsKnown, IsMostFor};
 
-    /// Fills `list` with the shortcuts of the node. The searches are made in `search`. It takes memory only if `search`
-    /// or `list` has to grow.
+    /// Fills `list` with the shortcuts of the node, or with some of them if they are more than `most`: then it ends with the
+    /// first leg to the node at which the list is longer. The searches are made in `search`. It takes memory only if
+    /// `search` or `list` has to grow.
     pub(crate) fn fill(
         &self,
         search: &mut WitnessSearch<K>,
         list: &mut Vec<Shortcut>,
+        most: u64,
     ) -> Result<(), AllocError>
         requires clean { IsClean self.now.remaining.now.nodes (known_of K.cost search.old.known) }
-        ensures list { OnOk result (AreShortcutsAmong self.now.remaining.now.nodes self.now.hops.number
-            (legs_touching self.now.touching.node self.now.touching.up.now self.now.touching.down.now) (legs_of self.now.remaining.now) self.now.touching.node list.new.items) }
+        ensures list { OnOk result (AreUpTo most (AreShortcutsAmong self.now.remaining.now.nodes self.now.hops.number
+            (legs_touching self.now.touching.node self.now.touching.up.now self.now.touching.down.now) (legs_of self.now.remaining.now) self.now.touching.node) list.new.items) }
         ensures clean { OnOk result (IsClean self.now.remaining.now.nodes (known_of K.cost search.new.known)) }
     {
         list.clear();
         for first in self.touching.down {
+            if list.len() as u64 > most {
+                return Ok(());
+            }
             self.push(search, list, *first)?;
         }
         Ok(())

@@ -1,10 +1,11 @@
 //! The shortcuts that the contraction of a node would put in, and its priority.
-ghost use Rattle.std.specs.Prelude.{◌≡◌, ◌<◌, ◌≤◌, ◌^◌, IfOk, OnOk};
+ghost use Rattle.std.specs.Prelude.{◌≡◌, ◌<◌, ◌≤◌, ◌^◌, length, IfOk, OnOk};
 ghost use Rattle.ch_graph.specs.declared.limits.TheConstants.{MOST_NODES};
 ghost use Rattle.ch_contract.specs.Legs.{AreLegsWithin};
 ghost use Rattle.ch_contract.specs.Contraction.{AreShortcuts, IsPriority, count_touching};
 ghost use Rattle.ch_contract.specs.LegRows.{AreLegsFrom, AreLegsTo};
-ghost use Rattle.ch_contract.specs.Measures.{IsMeasure};
+ghost use Rattle.ch_contract.specs.Measures.{IsMeasureUpTo};
+ghost use Rattle.ch_contract.specs.ShortcutLists.{AreUpTo};
 ghost use Rattle.ch_contract.specs.KnownCosts.{known_of, IsClean, AreLegsUpTo};
 ghost use Rattle.ch_contract.specs.Remaining.{legs_of};
 
@@ -39,7 +40,7 @@ impl Remaining {
             hops,
             form: PhantomData,
         };
-        judging.fill(&mut search, &mut list)?;
+        judging.fill(&mut search, &mut list, u64::MAX)?;
         Ok(list)
     }
 
@@ -53,24 +54,27 @@ impl Remaining {
     {
         let mut search: WitnessSearch<Cost> = WitnessSearch::new(self.alloc, self.nodes())?;
         let mut list = Vec::new(self.alloc);
-        let measure = self.measure_in(&mut search, &mut list, v, hops)?;
+        let measure = self.measure_in(&mut search, &mut list, v, hops, u64::MAX)?;
         Ok(OrderBy::Difference.key(measure, 0))
     }
 
     /// Returns the number of shortcuts of `v` and the number of legs that touch it. The search is made in
-    /// `search`, and `list` becomes the list of the shortcuts.
+    /// `search`, and `list` becomes the list of the shortcuts. If they are more than `most`, more than `most` of them are
+    /// counted, and they are not all in the list.
     pub(crate) fn measure_in<K: HeldCost>(
         &self,
         search: &mut WitnessSearch<K>,
         list: &mut Vec<Shortcut>,
         v: u32,
         hops: HopBound,
+        most: u64,
     ) -> Result<Measure, AllocError>
         requires node { v < self.now.nodes }
         requires light { AreLegsUpTo K.limit (legs_of self.now) }
         requires clean { IsClean self.now.nodes (known_of K.cost search.old.known) }
-        ensures measure { IfOk result (IsMeasure self.now.nodes hops.number (legs_of self.now) v) }
-        ensures list { OnOk result (AreShortcuts self.now.nodes hops.number (legs_of self.now) v list.new.items) }
+        ensures measure { IfOk result (IsMeasureUpTo most self.now.nodes hops.number (legs_of self.now) v) }
+        ensures count { IfOk result (λ m. m.shortcuts ≡ length list.new.items) }
+        ensures list { OnOk result (AreUpTo most (AreShortcuts self.now.nodes hops.number (legs_of self.now) v) list.new.items) }
         ensures clean { OnOk result (IsClean self.now.nodes (known_of K.cost search.new.known)) }
     {
         let touching = self.touching(v);
@@ -80,7 +84,7 @@ impl Remaining {
             hops,
             form: PhantomData,
         };
-        judging.fill(search, list)?;
+        judging.fill(search, list, most)?;
         let legs = touching.up.len() + touching.down.len();
         Ok(Measure {
             shortcuts: list.len() as u64,
@@ -96,6 +100,14 @@ impl Remaining {
     {
         let legs = self.out_legs(node).len() + self.in_legs(node).len();
         legs as u64
+    }
+
+    /// Returns the number of legs to a node times the number of legs from it.
+    pub fn pairs(&self, node: u32) -> u64
+        requires { node < self.now.nodes }
+    {
+        let out = self.out_legs(node).len() as u64;
+        out.saturating_mul(self.in_legs(node).len() as u64)
     }
 
     /// Returns a node with the legs that touch it now.

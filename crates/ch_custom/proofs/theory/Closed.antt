@@ -27,6 +27,7 @@ use Rattle.ch_custom.specs.Customizing.{Lowers}
 use Rattle.ch_custom.specs.Metric.{held_leg}
 use Rattle.ch_custom.specs.Topologies.{HasLegs, legs_after, AreFor, AreMetricsAt}
 use Rattle.ch_custom.specs.Opening.{is_live}
+use Rattle.ch_custom.specs.Pruning.{HasCustomized}
 use Rattle.ch_custom.proofs.theory.Customizing.{contracting_is_lowering, lowered_are_contracted, lowered_within}
 use Rattle.ch_custom.proofs.theory.Relaxing.{node_of, leg_at}
 use Rattle.ch_custom.proofs.theory.Steps.{nodes, taken, in_topology, ordered_row}
@@ -81,7 +82,7 @@ module _ (g : Network) (order levels : List ℕ) (rows : List (List ℕ)) (limit
   v i = slice_index order i
 
   -- the legs are within the limits
-  within : (k : ℕ) → k ≤ g.nodes → AreLegsWithin g.nodes (L k)
+  pub within : (k : ℕ) → k ≤ g.nodes → AreLegsWithin g.nodes (L k)
   within = lowered_within g.nodes g.nodes order L (opening_within g limits) (λ i lt. (taken g order rows limits ready).step i lt)
 
   -- each step is a contraction
@@ -124,7 +125,7 @@ module _ (g : Network) (order levels : List ℕ) (rows : List (List ℕ)) (limit
   abbrev pub closed_hierarchy : LevelsAndLegs
   closed_hierarchy = record { level = levels; up = map (λ r. filter is_live r) ups; down = map (λ r. filter is_live r) downs }
 
-  row_up : (metric : List (List Leg)) → length metric ≡ g.nodes → (i : ℕ) → i < g.nodes →
+  pub row_up : (metric : List (List Leg)) → length metric ≡ g.nodes → (i : ℕ) → i < g.nodes →
       row (map (λ r. filter is_live r) metric) (v i) ≡ filter is_live (row metric (v i))
   row_up metric size i lt =
       let is = nodes g order rows limits ready in
@@ -170,6 +171,10 @@ module _ (g : Network) (order levels : List ℕ) (rows : List (List ℕ)) (limit
       hierarchies_with_enough_kept g 1 closed_hierarchy order L limits
       (hierarchy_with_enough g 1 closed_hierarchy order L limits (grind arith, grind arith)
       (lowered_are_contracted g order closed_hierarchy L limits hierarchy_in))
+
+  -- so there is such a hierarchy
+  pub customized : HasCustomized g order levels
+  customized = record { hierarchy = closed_hierarchy; level = refl; customized = hierarchy_in; levelled = is_levelled; kept = is_kept }
 
   -- the same for rows that are those of the arrays
   pub levelled_rows : (up down : List (List Leg)) → up ≡ map (λ r. filter is_live r) ups → down ≡ map (λ r. filter is_live r) downs →

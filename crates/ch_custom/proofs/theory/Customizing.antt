@@ -60,13 +60,13 @@ one_leg L v u w c witness = at witness.0 witness.1
     at (x ∷ y ∷ xs) is = absurd (let few = is.hops.1 in omega arith)
 
 -- a cheaper cost than that of a leg is not at least that
-cheaper_not : (c : Cost) (o : Option Label) (l : Label) → is_cheaper c o ≡ true → o ≡ Some l → IsAtMost l.cost c → ⊥
+pub cheaper_not : (c : Cost) (o : Option Label) (l : Label) → is_cheaper c o ≡ true → o ≡ Some l → IsAtMost l.cost c → ⊥
 cheaper_not c None l e some le = none-some l some
 cheaper_not c (Some k) l e some le =
     IsBelow_not c k.cost ((is_lt-cost_cmp c k.cost).0 e) (subst (λ (z : Label). IsAtMost z.cost c) (sym (same_Some k l some)) le)
 
 -- if a cost is not cheaper there is a leg that costs no more
-dearer : (c : Cost) (o : Option Label) → is_cheaper c o ≡ false → (l : Label) × (o ≡ Some l) × IsAtMost l.cost c
+pub dearer : (c : Cost) (o : Option Label) → is_cheaper c o ≡ false → (l : Label) × (o ≡ Some l) × IsAtMost l.cost c
 dearer c None e = absurd (true≢false e)
 dearer c (Some l) e = (
   l,

@@ -4,7 +4,7 @@ use Rattle.std.proofs.Common.{slice_range, refl, sym, ◌∙◌, ap, subst, arit
 use Rattle.std.specs.Prelude.{map}
 use Rattle.std.proofs.lemmas.Bool.{cases_eq, cases_lt}
 use Rattle.std.proofs.lemmas.List.{ext_get_or, get_or-take, get_or-drop, length-take-le, length-drop, length-append, get_or_append_left}
-use Rattle.std.proofs.lemmas.List.{get_or-append_right, get_or_default, map-append}
+use Rattle.std.proofs.lemmas.List.{get_or-append_right, get_or_default, map-append, get_or-map, length-map, drop-map, take-map}
 use Rattle.std.proofs.Math.Seq.{take-append_seam}
 use Rattle.ch_graph.proofs.RowsBetween.{row_within, rows_pushed, ordered_pushed}
 use Rattle.ch_custom.specs.declared.leg_pair.LegPair.{LegPair}
@@ -215,3 +215,30 @@ opened_more topology starts after pairs more node end r small lt all o count is 
           (ordered_pushed starts pairs (map no_pair r) o (omega arith))),
       (let size = ap length pushed in let more = length-append starts (end ∷ []) in omega arith),
     )
+
+-- the rows after a function is mapped over all their values
+pub rows_mapped : {T : Type 0} (f : T → T) (starts : List ℕ) (values : List T) →
+    rows_between starts (map f values) ≡ map (λ r. map f r) (rows_between starts values)
+rows_mapped f starts values = ext_get_or [] (rows_between starts (map f values)) (map (λ r. map f r) (rows_between starts values))
+    (length-rows_between starts (map f values) ∙ sym (length-map (rows_between starts values) (λ r. map f r)
+    ∙ length-rows_between starts values)) (λ k lt.
+    let count = length-rows_between starts (map f values) in
+    let old_count = length-rows_between starts values in
+    let below : k + 1 < length starts = omega arith in
+    let a = get_or starts k 0 in
+    let b = get_or starts (k + 1) 0 in
+    get_or-rows_between starts (map f values) k [] below
+    ∙ ap (take (b - a)) (drop-map f a values) ∙ take-map f (b - a) (drop a values)
+    ∙ ap (map f) (sym (get_or-rows_between starts values k [] below))
+    ∙ sym (get_or-map (λ r. map f r) (rows_between starts values) k [] [] (omega arith)))
+
+-- the same for a Vec of n elements
+pub rows_mapped_over : {T : Type 0} (f : T → T) (starts : List ℕ) (values lent new : List T) (rows : List (List T)) (n : ℕ) →
+    n ≡ length values → rows_between starts values ≡ rows → lent ≡ values → new ≡ map f lent →
+    rows_between starts (take n (new ++ drop (length new) values)) ≡ map (λ r. map f r) rows
+rows_mapped_over f starts values lent new rows n size are same is =
+    let whole : new ≡ map f values = is ∙ ap (map f) same in
+    let many : n ≡ length new = size ∙ sym (ap length whole ∙ length-map values f) in
+    ap (λ z. rows_between starts (take z (new ++ drop (length new) values))) many
+    ∙ ap (rows_between starts) (take-append_seam new (drop (length new) values) ∙ whole) ∙ rows_mapped f starts values
+    ∙ ap (map (λ r. map f r)) are

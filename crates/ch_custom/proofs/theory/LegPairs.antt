@@ -51,7 +51,7 @@ opened_rows side [] = refl
 opened_rows side (r ∷ rows) = λ i. opened_row side r i ∷ opened_rows side rows i
 
 -- the leg of a pair that is lightened, and the other leg
-lightened_leg : (side : Side) (y weight : ℕ) (p : LegPair) →
+pub lightened_leg : (side : Side) (y weight : ℕ) (p : LegPair) →
     leg_of side (lightened_pair side y weight p) ≡ lightened y weight (leg_of side p)
 lightened_leg Up y weight p = at (p.node == y && nat_lt weight p.up.weight)
   where
@@ -68,7 +68,8 @@ lightened_leg Down y weight p = at (p.node == y && nat_lt weight p.down.weight)
     at true = refl
     at false = refl
 
-lightened_kept : (side : Side) (y weight : ℕ) (p : LegPair) → leg_of (other side) (lightened_pair side y weight p) ≡ leg_of (other side) p
+pub lightened_kept : (side : Side) (y weight : ℕ) (p : LegPair) → leg_of (other side) (lightened_pair side y weight p) ≡ leg_of
+    (other side) p
 lightened_kept Up y weight p = at (p.node == y && nat_lt weight p.up.weight)
   where
     at : (b : Bool) → leg_of Down

@@ -1,5 +1,5 @@
 //! The construction of a hierarchy by the caller alone.
-ghost use Rattle.std.specs.Prelude.{◌≡◌, ℕ, ◌<◌, ◌++◌, All, Err, IfOk};
+ghost use Rattle.std.specs.Prelude.{◌≡◌, ◌≢◌, ℕ, ◌<◌, ◌++◌, pos, All, Err, IfOk, IfSome, None};
 ghost use Rattle.ch_graph.specs.Graph.{IsWithinLimits};
 ghost use Rattle.ch_contract.specs.Built.{IsHierarchyBy};
 ghost use Rattle.ch_contract.specs.Like.{IsHierarchyFrom, IsHierarchyLike};
@@ -9,6 +9,7 @@ ghost use Rattle.ch_hierarchy.specs.Saved.{IsOrderOf};
 
 use super::Construction;
 use super::like::{OrderError, split_given};
+use crate::keys::{FIRST_EXACT, GROWTH, Keys, TRIES};
 use crate::priority::PriorityJob;
 use ch_contract::memory::ask_ahead;
 use ch_contract::order::all_nodes;
@@ -70,12 +71,46 @@ fn contract_in_turn(
     requires order { IsOrderOf graph.now.nodes (given.now ++ others.now) }
     ensures { IfOk result (IsHierarchyFrom OrderBy.Depth graph.now hops.number given.now) }
 {
-    let begun = Construction::after(alloc, &Open, graph, given, hops)?;
-    let mut construction = begun.rank_alone(alloc, others, hops)?;
-    while let Some(node) = construction.next() {
-        construction = construction.contract_alone(alloc, node, hops)?;
+    let by = OrderBy::Depth;
+    let mut exact = FIRST_EXACT;
+    for _ in 0..TRIES {
+        let keys = Keys { by, exact };
+        if let Some(hierarchy) = contract_by(alloc, graph, given, others, hops, keys)? {
+            return Ok(hierarchy);
+        }
+        exact = exact.saturating_mul(GROWTH);
     }
-    construction.finish()
+    let exact = i64::MAX;
+    let keys = Keys { by, exact };
+    match contract_by(alloc, graph, given, others, hops, keys)? {
+        Some(hierarchy) => Ok(hierarchy),
+        None => unreachable!(),
+    }
+}
+
+/// Builds the same hierarchy by these keys. Returns `None` if a key comes first that is not exact.
+fn contract_by(
+    alloc: Global,
+    graph: &Graph,
+    given: &[u32],
+    others: &[u32],
+    hops: HopBound,
+    keys: Keys,
+) -> Result<Option<Hierarchy>, AllocError>
+    requires order { IsOrderOf graph.now.nodes (given.now ++ others.now) }
+    ensures hierarchy { IfOk result (λ o. IfSome o (IsHierarchyFrom keys.by graph.now hops.number given.now)) }
+    ensures none { IfOk result (λ o. o ≡ None → keys.exact ≢ pos 9223372036854775807) }
+{
+    let begun = Construction::after(alloc, &Open, graph, given, hops)?;
+    let mut construction = begun.rank_alone(alloc, others, hops, keys)?;
+    while let Some(node) = construction.next() {
+        if !construction.is_exact(node, keys) {
+            return Ok(None);
+        }
+        construction = construction.contract_alone(alloc, node, hops, keys)?;
+    }
+    let hierarchy = construction.finish()?;
+    Ok(Some(hierarchy))
 }
 
 impl Construction {
@@ -83,42 +118,43 @@ impl Construction {
     ghost use Rattle.ch_order.specs.Progress.{IsStep};
     ghost use Rattle.ch_order.specs.Construction.{IsSized, IsJudging, IsReadyFor, progress_of};
 
-    /// Gives these nodes the priorities by depth that they have now.
+    /// Gives these nodes the keys that they have now.
     pub(super) fn rank_alone(
         mut self,
         alloc: Global,
         nodes: &[u32],
         hops: HopBound,
+        keys: Keys,
     ) -> Result<Construction, AllocError>
         requires sizes { IsSized self }
         requires nodes { All (λ x. x < self.remaining.nodes) nodes.now }
         ensures sizes { IfOk result IsSized }
         ensures nodes { IfOk result (λ c. c.remaining.nodes ≡ self.remaining.nodes) }
-        ensures ranked { IfOk result (λ c. IsRanked OrderBy.Depth self.remaining.nodes hops.number nodes.now (progress_of self) (progress_of c)) }
+        ensures ranked { IfOk result (λ c. IsRanked keys self.remaining.nodes hops.number nodes.now (progress_of self) (progress_of c)) }
         ensures ready { IfOk result (λ c. (h : ℕ) → IsJudging h self → IsJudging h c) }
     {
-        let by = OrderBy::Depth;
         let job = PriorityJob {
             remaining: &self.remaining,
             depths: self.depths.as_slice(),
             hops,
-            by,
+            keys,
         };
         job.set_in_turn(alloc, nodes, &mut self.waiting)?;
         Ok(self)
     }
 
-    /// Contracts a node in the order by depth, and keeps its level and its legs.
+    /// Contracts a node, and keeps its level and its legs. Its neighbours get keys anew.
     fn contract_alone(
         self,
         alloc: Global,
         node: u32,
         hops: HopBound,
+        keys: Keys,
     ) -> Result<Construction, AllocError>
         requires next { IsReadyFor hops.number self node }
         ensures sizes { IfOk result IsSized }
         ensures nodes { IfOk result (λ c. c.remaining.nodes ≡ self.remaining.nodes) }
-        ensures step { IfOk result (λ c. IsStep OrderBy.Depth self.remaining.nodes hops.number (progress_of self) node (progress_of c)) }
+        ensures step { IfOk result (λ c. IsStep keys self.remaining.nodes hops.number (progress_of self) node (progress_of c)) }
         ensures ready { IfOk result (IsJudging hops.number) }
     {
         let (mut taken, neighbours) = self.take(alloc, node, hops)?;
@@ -126,7 +162,7 @@ impl Construction {
             remaining: &taken.remaining,
             depths: taken.depths.as_slice(),
             hops,
-            by: OrderBy::Depth,
+            keys,
         };
         job.refresh_here(
             alloc,

@@ -9,7 +9,7 @@ ghost use Rattle.ch_order.specs.OrderText.{like_text, order_text};
 ghost use Rattle.ch_order.specs.Crowded.{HasCrowded};
 ghost use Rattle.ch_contract.specs.Like.{IsHierarchyLike, given_count as count_of};
 
-use super::{Construction, contract_others};
+use super::{Construction, contract_begun};
 use ch_contract::memory::ask_ahead;
 use ch_contract::{HopBound, OrderBy, Percent};
 use ch_graph::Graph;
@@ -121,7 +121,7 @@ pub fn build_like<R: Threads + Sync, G: Gate>(
     };
     let begun = Construction::after_uncrowded(crew.alloc, crew.gate, graph, first, hops)?;
     let by = OrderBy::Depth;
-    Ok(contract_others(crew, graph, begun, first, others, hops, by)?)
+    Ok(contract_begun(crew, graph, begun, first, others, hops, by)?)
 }
 
 /// Splits a given order into the nodes that come in this order and those that are ordered afresh, if it has each node of

@@ -12,6 +12,7 @@ ghost use Rattle.ch_hierarchy.specs.Saved.{IsOrderOf};
 use super::Construction;
 use super::estimates::Estimates;
 use super::like::{OrderError, split_given};
+use crate::keys::Keys;
 use ch_contract::memory::ask_ahead;
 use ch_contract::order::all_nodes;
 use ch_contract::{HopBound, OrderBy, Percent};
@@ -195,6 +196,14 @@ fn push_if(list: &mut Vec<u32>, node: u32, wanted: bool) -> Result<(), AllocErro
     Ok(())
 }
 
+/// Returns priorities by depth as keys.
+fn all_exact() -> Keys {
+    Keys {
+        by: OrderBy::Depth,
+        exact: i64::MAX,
+    }
+}
+
 /// Returns the most legs of a witness while nodes are judged together: one less than otherwise, if that is not none.
 fn hops_together(hops: HopBound) -> HopBound {
     HopBound {
@@ -271,7 +280,7 @@ impl Construction {
     {
         let measure = self.room.judge(alloc, &self.remaining, node, hops)?;
         let priority = OrderBy::Depth.key(measure, self.depths[node as usize]);
-        estimates.note(node, measure.shortcuts, self.pairs(node));
+        estimates.note(node, measure.shortcuts, self.remaining.pairs(node));
         self.waiting.set(node, priority.saturating_sub(PREFERENCE));
         match self.next() {
             Some(first) => Ok(first),
@@ -306,7 +315,7 @@ impl Construction {
         }
         estimates.touch(node);
         let legs = self.remaining.count_touching(node);
-        let measure = estimates.measure(node, self.pairs(node), legs);
+        let measure = estimates.measure(node, self.remaining.pairs(node), legs);
         let key = OrderBy::Depth.key(measure, self.depths[node as usize]);
         self.waiting.set(node, key);
     }
@@ -327,7 +336,7 @@ impl Construction {
         ensures { IfOk result (IsUnderWay graph.now hops.number given.now) }
     {
         let stale = self.stale_among(crew.alloc, nodes, estimates)?;
-        let ranked = self.rank(crew, stale.as_slice(), hops_together(hops), OrderBy::Depth)?;
+        let ranked = self.rank(crew, stale.as_slice(), hops_together(hops), all_exact())?;
         ranked.note_all(stale.as_slice(), estimates);
         Ok(ranked)
     }
@@ -346,7 +355,7 @@ impl Construction {
     {
         let alloc = *self.levels.allocator();
         let stale = self.stale_among(alloc, nodes, estimates)?;
-        let ranked = self.rank_alone(alloc, stale.as_slice(), hops_together(hops))?;
+        let ranked = self.rank_alone(alloc, stale.as_slice(), hops_together(hops), all_exact())?;
         ranked.note_all(stale.as_slice(), estimates);
         Ok(ranked)
     }
@@ -466,7 +475,7 @@ impl Construction {
             let legs = self.remaining.count_touching(node) as i64;
             let depth = i64::from(self.depths[node as usize]);
             let twice = key.saturating_add(legs).saturating_sub(depth).max(0) as u64;
-            estimates.note(node, twice / 2, self.pairs(node));
+            estimates.note(node, twice / 2, self.remaining.pairs(node));
         }
     }
 }

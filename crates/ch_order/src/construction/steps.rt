@@ -164,20 +164,12 @@ impl Construction {
     pub(super) fn is_heavy(&self, node: u32) -> bool
         requires { node < self.now.remaining.nodes }
     {
-        if self.pairs(node) > MOST_PAIRS {
+        if self.remaining.pairs(node) > MOST_PAIRS {
             return true;
         }
         let from = self.count_around(self.remaining.in_legs(node));
         let to = self.count_around(self.remaining.out_legs(node));
         from.saturating_add(to) > MOST_AROUND
-    }
-
-    /// Returns the number of legs to a node times the number of legs from it.
-    pub(super) fn pairs(&self, node: u32) -> u64
-        requires { node < self.now.remaining.nodes }
-    {
-        let out = self.remaining.out_legs(node).len() as u64;
-        out.saturating_mul(self.remaining.in_legs(node).len() as u64)
     }
 
     /// Returns the number of legs that touch the nodes of these legs.

@@ -149,7 +149,7 @@ impl Search {
     }
 
     /// Takes each leg of the node that was settled last.
-    fn expand(&mut self, hierarchy: &Hierarchy, node: u32, rank: u32, cost: Cost)
+    pub(crate) fn expand(&mut self, hierarchy: &Hierarchy, node: u32, rank: u32, cost: Cost)
         requires expanding { IsExpandingAt hierarchy.now self.old node cost }
         requires rank { rank ≡ rank_of hierarchy.now node }
         ensures underway { IsUnderway hierarchy.now self.new }
@@ -163,7 +163,7 @@ impl Search {
     }
 
     /// Whether a leg from a higher node shows a way to `node`, of this rank, that costs less than `cost`.
-    fn is_stalled(&self, hierarchy: &Hierarchy, node: u32, rank: u32, cost: Cost) -> bool
+    pub(crate) fn is_stalled(&self, hierarchy: &Hierarchy, node: u32, rank: u32, cost: Cost) -> bool
         requires expanding { IsExpandingAt hierarchy.now self.now node cost }
         requires rank { rank ≡ rank_of hierarchy.now node }
         requires stalls { self.now.stalls ≡ true }

@@ -10,17 +10,18 @@ ghost use Rattle.ch_read.specs.Names.{NamesOrder, NamesSaved};
 ghost use Rattle.ch_read.specs.declared.form.Form.TheVariants as Form;
 ghost use Rattle.ch_graph.specs.Graph.{IsWithinLimits};
 ghost use Rattle.ch_hierarchy.specs.Saved.{NamesKept};
+ghost use Rattle.ch_run.specs.Customized.{IsDissected, IsUncustomizable, NamesCustomized};
 ghost use Rattle.ch_run.specs.Story.{EndsAt, IsOrderRefusedOn, IsRefused, IsSavedRefusedOn, Loads, NamesLike};
 ghost use Rattle.ch_run.specs.Source.{IsInPlaceOf, IsServing, IsToSave, ReadsSaved, source_reading};
 
 use super::inputs::{bytes_from, graph_from};
-use crate::building::{build_by, build_in_order, build_to_save};
+use crate::building::{build_by, build_in_order, build_to_save, customize_dissected, customize_in};
 use crate::fault::{RunFault, Which};
 use crate::plan::{Crew, Gate, Stage};
 use ch_contract::{CheckError, Hierarchy, HopBound, OrderBy, Percent};
 use ch_graph::{Graph, Saved};
 use ch_job::{Options, Source};
-use ch_order::{LikeError, build_quickly};
+use ch_order::{LikeError, OrderError, build_quickly};
 use ch_query::check_watched;
 use ch_read::{read_order_by, read_saved_by};
 use ch_text::Input;
@@ -81,8 +82,9 @@ impl Checked {
 }
 
 /// Reads a graph to its end. Then it reads the saved hierarchy if there is one, and checks it for the graph. Or it
-/// reads an order, and builds the hierarchy in an order like it. `named` says whether what the run writes names the
-/// hierarchy. If not, each hierarchy serves that is right for the graph, and one is built that takes less time.
+/// reads an order, and builds the hierarchy in an order like it, or customizes it in that order or in one that it finds.
+/// `named` says whether what the run writes names the hierarchy. If not, each hierarchy serves that is right for the graph,
+/// and one is built that takes less time.
 pub(crate) fn loaded_from<R: Threads + Sync, I: Input, S: Input + Drop, G: Gate>(
     crew: &Crew<'_, R, G>,
     graph: &mut I,
@@ -99,7 +101,6 @@ pub(crate) fn loaded_from<R: Threads + Sync, I: Input, S: Input + Drop, G: Gate>
     match source {
         Source::Built => Ok(Loaded { graph, saved: None }),
         Source::Saved(saved) => {
-            crew.gate.watch(Stage::Reading, 1, 2);
             let hierarchy = checked_from(crew, saved, &graph)?;
             Ok(Loaded {
                 graph,
@@ -107,8 +108,21 @@ pub(crate) fn loaded_from<R: Threads + Sync, I: Input, S: Input + Drop, G: Gate>
             })
         }
         Source::Like { order, fresh, hops } => {
-            crew.gate.watch(Stage::Reading, 1, 2);
             let hierarchy = built_from(crew, order, &graph, *fresh, *hops, named)?;
+            Ok(Loaded {
+                graph,
+                saved: Some(hierarchy),
+            })
+        }
+        Source::Customized { order, hops } => {
+            let hierarchy = customized_from(crew, order, &graph, *hops)?;
+            Ok(Loaded {
+                graph,
+                saved: Some(hierarchy),
+            })
+        }
+        Source::Dissected { hops } => {
+            let hierarchy = customize_dissected(crew, &graph, *hops)?;
             Ok(Loaded {
                 graph,
                 saved: Some(hierarchy),
@@ -120,8 +134,8 @@ pub(crate) fn loaded_from<R: Threads + Sync, I: Input, S: Input + Drop, G: Gate>
 /// Returns how many inputs loading reads.
 fn files_of<S: Drop>(source: &Source<S>) -> u32 {
     match source {
-        Source::Built => 1,
-        Source::Saved(_) | Source::Like { .. } => 2,
+        Source::Built | Source::Dissected { .. } => 1,
+        Source::Saved(_) | Source::Like { .. } | Source::Customized { .. } => 2,
     }
 }
 
@@ -166,6 +180,27 @@ fn built_from<R: Threads + Sync, S: Input, G: Gate>(
         Err(LikeError::Order) => Err(RunFault::Order),
         Err(LikeError::Crowded(node)) => Err(RunFault::Crowded(node)),
         Err(LikeError::NoMemory) => Err(RunFault::Memory),
+    }
+}
+
+/// Reads an order to its end, and customizes the hierarchy of the graph in it.
+#[tactic(auto, using(crate::proofs::Owed::own_as, crate::proofs::Loading::lines_unfit))]
+fn customized_from<R: Threads + Sync, S: Input, G: Gate>(
+    crew: &Crew<'_, R, G>,
+    order: &mut S,
+    graph: &Graph,
+    hops: HopBound,
+) -> Result<Hierarchy, RunFault>
+    ensures value { IfOk result (λ H. ReadsAll (reading S.read_gives order.old order.new) (λ bytes. NamesCustomized graph.now hops.number bytes H)) }
+    ensures kept { IfOk result (IsKept graph.now) }
+    ensures same { S.origin order.new ≡ S.origin order.old }
+    ensures ends { IfErr result (EndsAt Which.Order (reading S.read_gives order.old order.new) (IsUncustomizable graph.now)) }
+{
+    let given = order_from(crew, order, graph)?;
+    match customize_in(crew, graph, &given, hops) {
+        Ok(hierarchy) => Ok(hierarchy),
+        Err(OrderError::Order) => Err(RunFault::Order),
+        Err(OrderError::NoMemory) => Err(RunFault::Memory),
     }
 }
 
@@ -279,6 +314,7 @@ fn saved_from<R: Threads + Sync, S: Input, G: Gate>(
         (EndsAt Which.Saved (reading S.read_gives input.old input.new) (IsSavedRefusedOn graph.now)) }
     ensures same { S.origin input.new ≡ S.origin input.old }
 {
+    crew.gate.watch(Stage::Reading, 1, 2);
     let bytes = bytes_from(crew.alloc, input, Which::Saved)?;
     Which::Saved.judged(read_saved_by(crew, &bytes, graph.nodes()))
 }
@@ -295,6 +331,7 @@ fn order_from<R: Threads + Sync, S: Input, G: Gate>(
         (EndsAt Which.Order (reading S.read_gives input.old input.new) (IsRefused (Form.Saved graph.now.nodes))) }
     ensures same { S.origin input.new ≡ S.origin input.old }
 {
+    crew.gate.watch(Stage::Reading, 1, 2);
     let bytes = bytes_from(crew.alloc, input, Which::Order)?;
     Which::Order.judged(read_order_by(crew, &bytes, graph.nodes()))
 }

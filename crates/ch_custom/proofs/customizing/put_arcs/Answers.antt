@@ -14,7 +14,7 @@ loop-place-init c = put_start _ _ c.args.levels.now _ c.arcs-arcs.ensures.limits
 pub loop-place-preserved : goal.loop-place-preserved
 loop-place-preserved c =
     put_next _ _ c.args.levels.now _ c.arcs-arcs.ensures.limits c.requires.ready c.requires.levels c.arcs-arcs.result.now
-    c.loop-place.place _ _ _ _ _ c.arcs-arcs.ensures.arcs c.loop-place-test.true c.loop-place.invariant c.put_arc.ensures
+    c.loop-place.place _ _ _ _ _ c.arcs-arcs.ensures.arcs c.loop-place-test.true c.loop-place.invariant c.put_arc.ensures.legs
 
 pub returns : goal.returns
 returns c =

@@ -6,7 +6,7 @@ use Rattle.ch_order.proofs.construction.contract_others.Given as goal
 
 abbrev pub invariant-loop-node : goal.invariant-loop-node
 invariant-loop-node g l = IsSized l.construction × (l.construction.remaining.nodes ≡ l.graph.nodes)
-    × IsAfterSomeSteps l.by l.graph l.hops.number l.given (progress_of l.construction)
+    × IsAfterSomeSteps l.keys l.graph l.hops.number l.given (progress_of l.construction)
     × IsJudging l.hops.number l.construction
 
 abbrev pub decreases-loop-node : goal.decreases-loop-node

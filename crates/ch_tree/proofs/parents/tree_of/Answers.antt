@@ -2,7 +2,7 @@
 use Rattle.std.proofs.Common.{ℕ, List, length, sym, subst}
 use Rattle.ch_custom.specs.Customizing.{AreClosed}
 use Rattle.std.proofs.lemmas.Result.{IfOk-weaker}
-use Rattle.ch_tree.proofs.theory.Fitting.{tree_fits}
+use Rattle.ch_tree.proofs.theory.Fitting.{tree_fits, tree_fits_pruned}
 use Rattle.ch_tree.proofs.parents.tree_of.Goals as goal
 
 pub places_above-requires-clause-closed : goal.places_above-requires-clause-closed
@@ -15,3 +15,8 @@ pub returns-clause-fits : goal.returns-clause-fits
 returns-clause-fits c = IfOk-weaker c.places_above.result _ _
     (λ parents are. tree_fits c.args.topology.now c.order.result.now c.rows.result.now parents.items c.order.ensures.order c.rows.ensures
     are) c.places_above.ensures
+
+pub returns-clause-pruned : goal.returns-clause-pruned
+returns-clause-pruned c = IfOk-weaker c.places_above.result _ _
+    (λ parents are. tree_fits_pruned c.args.topology.now c.order.result.now c.rows.result.now parents.items c.order.ensures.order
+    c.rows.ensures are) c.places_above.ensures

@@ -3,6 +3,7 @@ use Rattle.std.proofs.Common.{◌≡◌, ◌<◌, ℕ, [], ◌∷◌, ◌++◌, 
 use Rattle.ch_contract.specs.declared.room.Room.{Room}
 use Rattle.ch_contract.specs.Remaining.{legs_of}
 use Rattle.ch_contract.specs.Rooms.{list_at}
+use Rattle.ch_contract.proofs.code.Counted.{whole_measure}
 use Rattle.ch_contract.proofs.code.Rooms.{views, ready_more, spare_more}
 use Rattle.ch_contract.proofs.room.Room.judge.Goals.{then-place-len+in_ok-push, else-place-len}
 use Rattle.ch_contract.proofs.room.Room.judge.Goals as goal
@@ -44,4 +45,9 @@ returns-clause-ready c =
     ready_more c.args.remaining.now.nodes c.args.hops.number (legs_of c.args.remaining.now) old _ c.if-place-len.self.lists.items
     c.args.node c.measure.new.list c.requires.ready c.in_ok-measure.ensures.idle
     (c.in_ok-push-2.ensures.items ∙ ap (λ z. z ++ c.args.node ∷ []) judged)
-    (ap (λ k. set c.if-place-len.self.lists.items k c.measure.new.list) place) inside same c.in_ok-measure.ensures.list
+    (ap (λ k. set c.if-place-len.self.lists.items k c.measure.new.list) place) inside same
+    (c.in_ok-measure.ensures.list.0 (omega (arith, c.measure.new.list.ok, c.measure.new.list.small)))
+
+pub returns-clause-measure : goal.returns-clause-measure
+returns-clause-measure c =
+    whole_measure _ _ _ _ _ c.in_ok-measure.measure (omega (arith, c.in_ok-measure.measure.small)) c.in_ok-measure.ensures.measure

@@ -16,7 +16,7 @@ word_at-requires c =
     let from = c.args.from in
     let levelled = c.level.ensures.levelled in
     let low : from < nodes_of H = subst (λ (v : LevelsAndLegs × Lines). from < nodes_of v.0) (sym c.self.view_is) c.requires.from in
-    let long = c.self.invariant.3.0.long from (let size = rows_size H levelled Up in omega (arith, size, low)) in
+    let long = c.self.invariant.0.3.0.long from (let size = rows_size H levelled Up in omega (arith, size, low)) in
     let words = ap length c.row.ensures in
     let legs = ap (λ (l : List Leg). length l) c.up.ensures.row in
     record {
@@ -30,7 +30,7 @@ word_at-requires-else-level c =
     let to = c.args.to in
     let levelled = c.level.ensures.levelled in
     let low : to < nodes_of H = subst (λ (v : LevelsAndLegs × Lines). to < nodes_of v.0) (sym c.self.view_is) c.requires.to in
-    let long = c.self.invariant.3.1.long to (let size = rows_size H levelled Down in omega (arith, size, low)) in
+    let long = c.self.invariant.0.3.1.long to (let size = rows_size H levelled Down in omega (arith, size, low)) in
     let words = ap length c.row-else-level.ensures in
     let legs = ap (λ (l : List Leg). length l) c.down.ensures.row in
     record {

@@ -1,7 +1,7 @@
--- The neighbours of a contracted node are nodes and few enough, and with their new priorities the construction has made a step.
+-- The neighbours of a contracted node are nodes and few enough, and with their new keys the construction has made a step.
 use Rattle.std.proofs.Common.{◌<◌, ◌∙◌, sym, subst, arith}
 use Rattle.std.specs.Prelude.{All}
-use Rattle.ch_contract.specs.Measures.{IsPriorityIn}
+use Rattle.ch_order.specs.Priorities.{IsKeyIn}
 use Rattle.ch_contract.proofs.code.NodeBounds.{neighbours_within}
 use Rattle.ch_order.proofs.ConstructionCalls.{lent_refreshed, stepped, neighbours_count}
 use Rattle.ch_order.proofs.construction.Construction.contract.Goals as goal
@@ -27,6 +27,7 @@ pub returns-clause-step : goal.returns-clause-step
 returns-clause-step g c =
     let taken = c.in_ok-taken.taken in
     let next = c.requires.next in
-    let anew = lent_refreshed (λ d. IsPriorityIn c.args.by taken.remaining c.args.hops.number d) _ _ _ _ _ _ c.as_slice.ensures.value
+    let anew = lent_refreshed (λ d. IsKeyIn c.args.keys taken.remaining c.args.hops.number d) _ _ _ _ _ _ c.as_slice.ensures.value
     c.as_slice-2.ensures c.in_ok-refresh.ensures.anew in
-    stepped c.args.by c.args.hops.number c.args.self c.args.node _ taken _ next.node next.limits next.sizes c.in_ok-taken.ensures.taken anew
+    stepped c.args.keys c.args.hops.number c.args.self c.args.node _ taken _ next.node next.limits next.sizes c.in_ok-taken.ensures.taken
+    anew

@@ -2,7 +2,6 @@
 use Rattle.std.proofs.Common.{◌<◌, List, ℕ, sym, ap, subst, length, arith}
 use Rattle.std.specs.Prelude.{All}
 use Rattle.std.proofs.lemmas.List.Elements.{All-contains}
-use Rattle.ch_contract.specs.declared.measure.OrderBy.TheVariants.{Depth}
 use Rattle.ch_order.specs.Quick.{HasKey}
 use Rattle.ch_order.proofs.QuickSteps.{keyed_within, rekeyed_ranked, under_way_rekeyed}
 use Rattle.ch_order.proofs.construction.Construction.rank_stale.Goals as goal
@@ -21,5 +20,5 @@ returns g c =
     let keys = subst (λ (l : List ℕ). All (HasKey c.args.self.waiting) l) (sym c.as_slice.ensures.value) c.in_ok-stale.ensures.keys in
     let r = c.in_ok-ranked.ensures in
     under_way_rekeyed _ _ _ _ c.requires.under_way _ r.sizes r.nodes
-    (rekeyed_ranked Depth _ _ _ _ _ (λ x has. All-contains (HasKey c.args.self.waiting) _ x keys has) r.ranked)
+    (rekeyed_ranked _ _ _ _ _ _ (λ x has. All-contains (HasKey c.args.self.waiting) _ x keys has) r.ranked)
     (r.ready c.args.hops.number c.requires.under_way.ready)

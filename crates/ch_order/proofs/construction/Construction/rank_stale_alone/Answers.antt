@@ -2,7 +2,6 @@
 use Rattle.std.proofs.Common.{◌<◌, List, ℕ, sym, subst}
 use Rattle.std.specs.Prelude.{All}
 use Rattle.std.proofs.lemmas.List.Elements.{All-contains}
-use Rattle.ch_contract.specs.declared.measure.OrderBy.TheVariants.{Depth}
 use Rattle.ch_order.specs.Quick.{HasKey}
 use Rattle.ch_order.proofs.QuickSteps.{keyed_within, rekeyed_ranked, under_way_rekeyed}
 use Rattle.ch_order.proofs.construction.Construction.rank_stale_alone.Goals as goal
@@ -17,5 +16,5 @@ returns c =
     let keys = subst (λ (l : List ℕ). All (HasKey c.args.self.waiting) l) (sym c.as_slice.ensures.value) c.in_ok-stale.ensures.keys in
     let r = c.in_ok-ranked.ensures in
     under_way_rekeyed _ _ _ _ c.requires.under_way _ r.sizes r.nodes
-    (rekeyed_ranked Depth _ _ _ _ _ (λ x has. All-contains (HasKey c.args.self.waiting) _ x keys has) r.ranked)
+    (rekeyed_ranked _ _ _ _ _ _ (λ x has. All-contains (HasKey c.args.self.waiting) _ x keys has) r.ranked)
     (r.ready c.args.hops.number c.requires.under_way.ready)

@@ -4,11 +4,11 @@ use Rattle.ch_contract.proofs.theory.GivenOrders.{from_kept}
 use Rattle.ch_order.proofs.construction.like.build_like.Goals as goal
 
 pub returns-clause-hierarchy : goal.returns-clause-hierarchy
-returns-clause-hierarchy g c = rw (c.in-Ok.ensures.first) at c.in_ok-contract_others.ensures
+returns-clause-hierarchy g c = rw (c.in-Ok.ensures.first) at c.in_ok-contract_begun.ensures
 
 pub returns-clause-few : goal.returns-clause-few
 returns-clause-few g c = rw (c.in-Ok.ensures.first) at c.in_ok-begun.ensures.few
 
 pub returns-clause-kept : goal.returns-clause-kept
 returns-clause-kept g c =
-    from_kept Depth c.args.graph.now c.args.hops.number _ _ c.ask_ahead.ensures c.args.hops.in_range c.in_ok-contract_others.ensures
+    from_kept Depth c.args.graph.now c.args.hops.number _ _ c.ask_ahead.ensures c.args.hops.in_range c.in_ok-contract_begun.ensures

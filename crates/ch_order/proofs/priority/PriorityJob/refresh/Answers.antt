@@ -1,6 +1,6 @@
 -- One more piece gives its nodes the priorities that they have now.
 use Rattle.std.proofs.Common.{◌<◌, ◌≤◌, length, arith}
-use Rattle.ch_contract.specs.Measures.{IsPriorityIn}
+use Rattle.ch_order.specs.Priorities.{IsKeyIn}
 use Rattle.ch_order.proofs.KeptPriorities.{refreshed_range}
 use Rattle.ch_order.proofs.priority.PriorityJob.refresh.Goals as goal
 
@@ -17,7 +17,7 @@ loop-from-preserved g c =
     let le : c.loop-from.from ≤ c.min-to.result = omega arith in (
       omega (arith, i.0, past),
       inside,
-      refreshed_range (IsPriorityIn job.by job.remaining.now job.hops.number job.depths.now) c.args.nodes.now c.loop-from.from
+      refreshed_range (IsKeyIn job.keys job.remaining.now job.hops.number job.depths.now) c.args.nodes.now c.loop-from.from
           c.min-to.result _ _ _ le i.2 c.in_ok-refresh_here.ensures.anew,
       c.in_ok-refresh_here.ensures.ready,
     )

@@ -6,15 +6,14 @@ use Rattle.std.proofs.lemmas.Int.{to_z-of_z}
 use Rattle.std.proofs.lemmas.Slice.Zip.{zip_turn, zip_end, AllZip-long}
 use Rattle.std.proofs.lemmas.List.{take_all}
 use Rattle.ch_graph.proofs.Lists.{zipped_at}
-use Rattle.ch_order.specs.Priorities.{AreRefreshed}
-use Rattle.ch_contract.specs.Measures.{IsPriorityIn}
+use Rattle.ch_order.specs.Priorities.{AreRefreshed, IsKeyIn}
 use Rattle.ch_order.proofs.KeptPriorities.{refreshed_more}
 use Rattle.ch_order.proofs.priority.PriorityJob.set_all.Goals as goal
 
 pub loop-node-preserved : goal.loop-node-preserved
 loop-node-preserved c =
     let job = c.args.self.now in
-    let P = IsPriorityIn job.by job.remaining.now job.hops.number job.depths.now in
+    let P = IsKeyIn job.keys job.remaining.now job.hops.number job.depths.now in
     let nodes = c.args.nodes.now in
     let anew = c.args.priorities.now in
     let yielded = c.loop-node.yielded in
@@ -34,7 +33,7 @@ loop-node-preserved c =
 pub returns : goal.returns
 returns c =
     let job = c.args.self.now in
-    let P = IsPriorityIn job.by job.remaining.now job.hops.number job.depths.now in
+    let P = IsKeyIn job.keys job.remaining.now job.hops.number job.depths.now in
     let nodes = c.args.nodes.now in
     let anew = c.args.priorities.now in
     let end = zip_end nodes anew c.loop-node.yielded c.into_iter-node-iterator.result c.loop-node.node-iterator c.next.new.self

@@ -1,7 +1,7 @@
 -- One more node, judged in a workspace without kept shortcuts, gets the priority that it has now.
 use Rattle.std.proofs.Common.{rules, ◌≡◌, ◌<◌, to_z, of_z, w64, length, get_or, arith}
 use Rattle.std.proofs.lemmas.Int.{to_z-of_z}
-use Rattle.ch_contract.specs.Measures.{IsPriorityIn}
+use Rattle.ch_order.specs.Priorities.{IsKeyIn}
 use Rattle.ch_contract.specs.Remaining.{legs_of}
 use Rattle.ch_order.proofs.KeptPriorities.{refreshed_more}
 use Rattle.ch_order.proofs.priority.PriorityJob.set_in_turn.Goals as goal
@@ -23,7 +23,7 @@ loop-node-preserved c =
     let node = c.requires.nodes i 0 c.loop-node-test.true in
     let within : get_or nodes i 0 < length c.loop-node.waiting = omega arith in
     let same : to_z w64 (of_z w64 c.in_ok-priority.priority) ≡ c.in_ok-priority.priority = grind (arith, to_z-of_z) in (
-      rw (c.set.ensures, same) (refreshed_more (IsPriorityIn job.by job.remaining.now job.hops.number job.depths.now) nodes i _ _ _
+      rw (c.set.ensures, same) (refreshed_more (IsKeyIn job.keys job.remaining.now job.hops.number job.depths.now) nodes i _ _ _
           c.loop-node-test.true within c.in_ok-priority.ensures.value known),
       c.in_ok-priority.ensures.clean,
     )

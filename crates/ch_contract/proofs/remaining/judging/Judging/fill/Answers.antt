@@ -1,9 +1,10 @@
 -- One more leg to the node adds the shortcuts that begin with it, so in the end the list has all shortcuts in order.
-use Rattle.std.proofs.Common.{◌+◌, get_or}
+use Rattle.std.proofs.Common.{◌+◌, get_or, arith}
 use Rattle.ch_contract.specs.Remaining.{legs_of}
 use Rattle.ch_contract.specs.ShortcutLists.{legs_touching}
 use Rattle.ch_contract.proofs.theory.RowLemmas.{leg_to_at}
 use Rattle.ch_hierarchy.proofs.theory.NoLeg.{no_leg}
+use Rattle.ch_contract.proofs.code.Counted.{whole_up_to, broken_off}
 use Rattle.ch_contract.proofs.code.ShortcutLemmas.{boundary_next, before_next_down, before_end_down}
 use Rattle.ch_contract.proofs.remaining.judging.Judging.fill.Goals as goal
 
@@ -41,8 +42,17 @@ returns g c =
     let t = c.args.self.now.touching in
     let so_far = c.loop-first.invariant.0 in
     record {
-      list = before_end_down c.args.self.now.remaining.now.nodes c.args.self.now.hops.number (legs_touching t.node t.up.now t.down.now)
+      list = whole_up_to c.args.most _ c.loop-first.list.items (before_end_down c.args.self.now.remaining.now.nodes
+          c.args.self.now.hops.number (legs_touching t.node t.up.now t.down.now)
           (legs_of c.args.self.now.remaining.now) t.node so_far.0 c.loop-first.first-index t.down.now c.loop-first.list.items
-          c.args.self.now.touches.to so_far.1 c.loop-first-test.false so_far.2;
+          c.args.self.now.touches.to so_far.1 c.loop-first-test.false so_far.2);
       clean = c.loop-first.invariant.1;
     }
+
+pub returns-then-len-most-clause-list : goal.returns-then-len-most-clause-list
+returns-then-len-most-clause-list g c =
+    let t = c.args.self.now.touching in
+    let so_far = c.loop-first.invariant.0 in
+    broken_off c.args.most c.args.self.now.remaining.now.nodes c.args.self.now.hops.number (legs_touching t.node t.up.now t.down.now)
+    (legs_of c.args.self.now.remaining.now) t.node so_far.0 c.loop-first.list.items c.args.self.now.touches.within c.args.self.now.within
+    so_far.2 (omega (arith, c.if-len-most.true, c.len.ensures))

@@ -1,0 +1,178 @@
+//! Where the search tree of a source meets those of the targets of a table, with the sums of both ways.
+ghost use Rattle.std.specs.Prelude.{◌≡◌, ◌≢◌, ◌+◌, ◌<◌, ℕ, List, length, All, IfOk, None, OnOk, replicate};
+ghost use Rattle.ch_graph.specs.Cost.{cost_sum};
+ghost use Rattle.ch_hierarchy.specs.Hierarchy.{LevelsAndLegs, nodes_of};
+ghost use Rattle.ch_hierarchy.specs.declared.side.Side.TheVariants.{Up as UpSide};
+ghost use Rattle.ch_engine.specs.LegSums.{AreKeptSums, unknown};
+ghost use Rattle.ch_engine.specs.Lines.{Lines};
+ghost use Rattle.ch_engine.specs.TableSums.{AddsStops, AreBranches, AreCells, AreOffers, AreStops, AreStopsOf, AreWithin, CoverBranches, CoverStops, IsBranch, IsFirstMet, IsSmall, IsStopWithin, KeepsCovers};
+
+use crate::leg_sums::{KeptSums, joined};
+use crate::network::Network;
+use crate::sum_trees::{Branch, TreeRoom};
+use ch_graph::{Cost, Rows};
+use ch_hierarchy::Side;
+use ch_query::Scratch;
+use std::alloc::{AllocError, Global};
+
+/// A branch of the tree of a target, at some node.
+#[derive(Clone, Copy)]
+pub(crate) struct Stop {
+    /// The place of the target in the list of targets.
+    pub(crate) place: usize,
+    /// The cost of a path between the node and the target.
+    pub(crate) cost: Cost,
+    /// The sum of the values on the way, or [`UNKNOWN`](crate::leg_sums::UNKNOWN).
+    pub(crate) sum: u64,
+}
+
+/// A node where two trees meet, with the sums of their costs and of their sums there.
+#[derive(Clone, Copy)]
+pub(crate) struct Met {
+    pub(crate) node: u32,
+    pub(crate) cost: Cost,
+    /// The sum of the values on both ways, or [`UNKNOWN`](crate::leg_sums::UNKNOWN).
+    pub(crate) sum: u64,
+}
+
+impl Network {
+    /// Returns for each node the branches of the targets there.
+    ///
+    /// # Errors
+    /// `AllocError` if there is no memory.
+    pub(crate) fn find_stops(
+        &self,
+        alloc: Global,
+        scratch: &mut Scratch,
+        kept: &KeptSums,
+        targets: &[u32],
+        room: &mut TreeRoom,
+    ) -> Result<Rows<Stop>, AllocError>
+        requires scratch { scratch.old ≡ nodes_of self.now.0 }
+        requires targets { All (λ node. node < nodes_of self.now.0) targets.now }
+        requires kept { AreKeptSums self.now.0 self.now.1 kept.now }
+        ensures count { IfOk result (λ stops. length stops ≡ nodes_of self.now.0) }
+        ensures stops { IfOk result (AreStops self.now.0 self.now.1 kept.now.values.items targets.now) }
+        ensures scratch { scratch.new ≡ scratch.old }
+    {
+        let mut pairs = Vec::new(alloc);
+        for c in 0..targets.len() {
+            self.find_branches(alloc, scratch, kept, Side::Down, targets[c], room)?;
+            push_stops(c, &room.branches, &mut pairs)?;
+        }
+        Rows::build(alloc, self.hierarchy().nodes(), &pairs)
+    }
+
+    /// Returns where the tree of a source meets those of the targets with these stops.
+    ///
+    /// # Errors
+    /// `AllocError` if there is no memory.
+    pub(crate) fn find_row(
+        &self,
+        alloc: Global,
+        scratch: &mut Scratch,
+        kept: &KeptSums,
+        source: u32,
+        targets: &[u32],
+        stops: &Rows<Stop>,
+        room: &mut TreeRoom,
+    ) -> Result<Vec<Option<Met>>, AllocError>
+        requires scratch { scratch.old ≡ nodes_of self.now.0 }
+        requires source { source < nodes_of self.now.0 }
+        requires kept { AreKeptSums self.now.0 self.now.1 kept.now }
+        requires count { length stops.now ≡ nodes_of self.now.0 }
+        requires stops { AreStops self.now.0 self.now.1 kept.now.values.items targets.now stops.now }
+        ensures row { IfOk result (λ row. AreCells self.now.0 self.now.1 kept.now.values.items source targets.now row.items) }
+        ensures scratch { scratch.new ≡ scratch.old }
+    {
+        self.find_branches(alloc, scratch, kept, Side::Up, source, room)?;
+        let mut row = unmet(alloc, targets.len())?;
+        meet_branches(&room.branches, stops, row.as_mut_slice());
+        Ok(row)
+    }
+}
+
+/// Returns a row of so many cells, with no meetings.
+fn unmet(alloc: Global, cells: usize) -> Result<Vec<Option<Met>>, AllocError>
+    ensures { IfOk result (λ row. row.items ≡ replicate cells None) }
+{
+    vec![in alloc; None; cells]
+}
+
+/// Appends the branches of the target at this place, each after its node.
+fn push_stops(
+    place: usize,
+    branches: &[Branch],
+    pairs: &mut Vec<(u32, Stop)>,
+) -> Result<(), AllocError>
+    ensures { OnOk result (AddsStops place branches.now pairs.old.items pairs.new.items) }
+{
+    for branch in branches {
+        let stop = Stop {
+            place,
+            cost: branch.cost,
+            sum: branch.sum,
+        };
+        pairs.push((branch.node, stop))?;
+    }
+    Ok(())
+}
+
+/// Goes on with the meetings of a row by all branches of its source.
+fn meet_branches(branches: &[Branch], stops: &Rows<Stop>, row: &mut [Option<Met>])
+    requires branches { All (λ e. (e.node < length stops.now) × IsSmall e.cost) branches.now }
+    requires stops { AreWithin (length row.old) stops.now }
+    ensures long { length row.new ≡ length row.old }
+    ensures covers { CoverBranches branches.now (length branches.now) stops.now row.new }
+    ensures offers { (H : LevelsAndLegs) (lines : Lines) (values targets : List ℕ) (s : ℕ) → length targets ≡ length row.old → AreBranches UpSide H lines values s branches.now → AreStops H lines values targets stops.now → AreOffers H lines values s targets row.old → AreOffers H lines values s targets row.new }
+{
+    for i in 0..branches.len() {
+        let branch = branches[i];
+        meet_stops(branch, stops.row(branch.node), row);
+    }
+}
+
+/// Goes on with the meetings of a row by a branch and the stops at its node.
+fn meet_stops(branch: Branch, stops: &[Stop], row: &mut [Option<Met>])
+    requires branch { IsSmall branch.cost }
+    requires stops { All (IsStopWithin (length row.old)) stops.now }
+    ensures long { length row.new ≡ length row.old }
+    ensures keeps { KeepsCovers row.old row.new }
+    ensures covers { CoverStops branch.node branch.cost stops.now (length stops.now) row.new }
+    ensures offers { (H : LevelsAndLegs) (lines : Lines) (values targets : List ℕ) (s : ℕ) → length targets ≡ length row.old → IsBranch UpSide H lines values s branch.node branch.cost branch.sum → AreStopsOf H lines values targets branch.node stops.now → AreOffers H lines values s targets row.old → AreOffers H lines values s targets row.new }
+{
+    for j in 0..stops.len() {
+        let stop = stops[j];
+        let met = meet(branch, stop);
+        row[stop.place] = first_met(row[stop.place], met);
+    }
+}
+
+/// Returns the meeting of a branch and a stop.
+#[inline]
+fn meet(branch: Branch, stop: Stop) -> Met
+    requires branch { IsSmall branch.cost }
+    requires stop { IsSmall stop.cost }
+    ensures node { result.node ≡ branch.node }
+    ensures cost { result.cost ≡ cost_sum branch.cost stop.cost }
+    ensures sum { result.sum ≢ unknown → (branch.sum ≢ unknown) × (stop.sum ≢ unknown) × (result.sum ≡ branch.sum + stop.sum) }
+{
+    Met {
+        node: branch.node,
+        cost: branch.cost.plus(stop.cost),
+        sum: joined(branch.sum, stop.sum),
+    }
+}
+
+/// Returns the first of the two, by cost and then by node.
+#[inline]
+fn first_met(old: Option<Met>, new: Met) -> Option<Met>
+    ensures { IsFirstMet old new result }
+{
+    if let Some(known) = old {
+        if known.cost < new.cost || known.cost == new.cost && known.node <= new.node {
+            return old;
+        }
+    }
+    Some(new)
+}

@@ -1,0 +1,340 @@
+//! Sums of values along the routes of the cells of a table.
+ghost use Rattle.std.specs.Prelude.{◌≡◌, ◌+◌, ◌*◌, ◌<◌, ◌≤◌, ℕ, List, length, slice_index, IfErr, IfOk, MatchOption, OnOk, false, true, ⊤};
+ghost use Rattle.ch_hierarchy.specs.Hierarchy.{LevelsAndLegs, nodes_of};
+ghost use Rattle.ch_engine.specs.Held.{only};
+ghost use Rattle.ch_engine.specs.LegSums.{AreKeptSums};
+ghost use Rattle.ch_engine.specs.Lines.{IsOfSome, Lines};
+ghost use Rattle.ch_engine.specs.NearRows.{StaysFrom};
+ghost use Rattle.ch_engine.specs.Refusals.{AreNodes, AreTableSumLengths, IsRefusalOfTableSums};
+ghost use Rattle.ch_engine.specs.RouteSums.{IsPairSum};
+ghost use Rattle.ch_engine.specs.Routes.{IsFound};
+ghost use Rattle.ch_engine.specs.TableSums.{AreCells, AreRowSums, AreStops, AreTableSumsWritten, IsCell, IsCellEnd, IsEarly, IsRowEnd, IsWhole};
+
+use crate::engine::Engine;
+use crate::fault::Refusal;
+use crate::leg_sums::{KeptSums, UNKNOWN};
+use crate::network::Network;
+use crate::route_sums::write_pair;
+use crate::routes::weight_of;
+use crate::sum_meets::{Met, Stop};
+use crate::sum_trees::TreeRoom;
+use crate::words::{NO_DISTANCE, are_both_nodes};
+use crate::written::{Summed, SumsEnd};
+use ch_graph::Rows;
+use ch_query::{Route, Scratch, route};
+use std::alloc::{AllocError, Global};
+
+impl Engine {
+    /// Writes the weight of the route of each cell of a table as a word, and the sum of the values on the lines of its
+    /// arcs, row after row. Routes and lines are those of [`Engine::routes`], and there is a value for each line of the
+    /// graph. Without a walk the word is [`NO_DISTANCE`] and the sum is 0. It ends before the first cell whose sum is 2^64
+    /// or more, or before a row for which there is no memory.
+    ///
+    /// Each source and each target takes one search, and a cell about the time of one of [`Engine::table`]. The sums along
+    /// all legs of the hierarchy are kept for the next call with the same values.
+    ///
+    /// # Errors
+    /// `Lengths` if the lengths do not fit, otherwise `NodeRange` if a number is no node. Then nothing is written.
+    pub fn table_sums(
+        &mut self,
+        alloc: Global,
+        sources: &[u32],
+        targets: &[u32],
+        values: &[u64],
+        weights: &mut [u64],
+        sums: &mut [u64],
+    ) -> Result<Summed, Refusal>
+        ensures written { IfOk result (AreTableSumsWritten self.old sources.now targets.now values.now weights.new sums.new) }
+        ensures behind { IfOk result (λ summed. StaysFrom summed.count weights.old weights.new × StaysFrom summed.count sums.old sums.new) }
+        ensures fit { OnOk result (AreTableSumLengths (length sources.now) (length targets.now) (length weights.old) (length sums.old) (length values.now) self.old.lines.count) }
+        ensures known { OnOk result (AreNodes (nodes_of self.old.hierarchy) sources.now × AreNodes (nodes_of self.old.hierarchy) targets.now) }
+        ensures refused { IfErr result (λ refusal. (weights.new ≡ weights.old) × (sums.new ≡ sums.old) × IsRefusalOfTableSums (nodes_of self.old.hierarchy) self.old.lines.count sources.now targets.now (length values.now) (length weights.old) (length sums.old) refusal) }
+        ensures same { self.new ≡ self.old }
+    {
+        let cells = sources.len().checked_mul(targets.len());
+        if cells != Some(weights.len()) || cells != Some(sums.len()) {
+            return Err(Refusal::Lengths);
+        }
+        if values.len() != self.network.count() {
+            return Err(Refusal::Lengths);
+        }
+        let count = self.nodes();
+        if !are_both_nodes(sources, targets, count) {
+            return Err(Refusal::NodeRange);
+        }
+        Ok(self.write_table_sums(alloc, sources, targets, values, weights, sums))
+    }
+
+    fn write_table_sums(
+        &mut self,
+        alloc: Global,
+        sources: &[u32],
+        targets: &[u32],
+        values: &[u64],
+        weights: &mut [u64],
+        sums: &mut [u64],
+    ) -> Summed
+        requires lengths { AreTableSumLengths (length sources.now) (length targets.now) (length weights.old) (length sums.old) (length values.now) self.old.lines.count }
+        requires sources { AreNodes (nodes_of self.old.hierarchy) sources.now }
+        requires targets { AreNodes (nodes_of self.old.hierarchy) targets.now }
+        requires kept { IsOfSome self.old.hierarchy self.old.lines }
+        ensures written { AreTableSumsWritten self.old sources.now targets.now values.now weights.new sums.new result }
+        ensures behind { StaysFrom result.count weights.old weights.new × StaysFrom result.count sums.old sums.new }
+        ensures same { self.new ≡ self.old }
+    {
+        let none = Summed {
+            count: 0,
+            end: SumsEnd::NoMemory,
+        };
+        let Ok(()) = self.network.keep_sums(alloc, &mut self.sums, values) else {
+            return none;
+        };
+        let Some(kept) = &self.sums else {
+            return none;
+        };
+        self.network.write_table(
+            alloc,
+            &mut self.scratch,
+            kept,
+            sources,
+            targets,
+            weights,
+            sums,
+        )
+    }
+}
+
+impl Network {
+    /// Writes the cells of all rows, one row after the other.
+    fn write_table(
+        &self,
+        alloc: Global,
+        scratch: &mut Scratch,
+        kept: &KeptSums,
+        sources: &[u32],
+        targets: &[u32],
+        weights: &mut [u64],
+        sums: &mut [u64],
+    ) -> Summed
+        requires scratch { scratch.old ≡ nodes_of self.now.0 }
+        requires lines { IsOfSome self.now.0 self.now.1 }
+        requires kept { AreKeptSums self.now.0 self.now.1 kept.now }
+        requires cells { (length weights.old ≡ length sources.now * length targets.now) × (length sums.old ≡ length sources.now * length targets.now) }
+        requires values { length kept.now.values.items ≡ self.now.1.count }
+        requires sources { AreNodes (nodes_of self.now.0) sources.now }
+        requires targets { AreNodes (nodes_of self.now.0) targets.now }
+        ensures written { AreTableSumsWritten (only self.now.0 self.now.1) sources.now targets.now kept.now.values.items weights.new sums.new result }
+        ensures behind { StaysFrom result.count weights.old weights.new × StaysFrom result.count sums.old sums.new }
+        ensures scratch { scratch.new ≡ scratch.old }
+    {
+        let Ok(mut room) = TreeRoom::new(alloc, self.hierarchy().nodes()) else {
+            return ended(0, SumsEnd::NoMemory);
+        };
+        let Ok(stops) = self.find_stops(alloc, scratch, kept, targets, &mut room) else {
+            return ended(0, SumsEnd::NoMemory);
+        };
+        self.write_rows(
+            alloc, scratch, kept, sources, targets, &stops, &mut room, weights, sums,
+        )
+    }
+
+    /// Writes the cells of all rows, by the stops of all targets.
+    fn write_rows(
+        &self,
+        alloc: Global,
+        scratch: &mut Scratch,
+        kept: &KeptSums,
+        sources: &[u32],
+        targets: &[u32],
+        stops: &Rows<Stop>,
+        room: &mut TreeRoom,
+        weights: &mut [u64],
+        sums: &mut [u64],
+    ) -> Summed
+        requires scratch { scratch.old ≡ nodes_of self.now.0 }
+        requires lines { IsOfSome self.now.0 self.now.1 }
+        requires kept { AreKeptSums self.now.0 self.now.1 kept.now }
+        requires cells { (length weights.old ≡ length sources.now * length targets.now) × (length sums.old ≡ length sources.now * length targets.now) }
+        requires values { length kept.now.values.items ≡ self.now.1.count }
+        requires sources { AreNodes (nodes_of self.now.0) sources.now }
+        requires targets { AreNodes (nodes_of self.now.0) targets.now }
+        requires count { length stops.now ≡ nodes_of self.now.0 }
+        requires stops { AreStops self.now.0 self.now.1 kept.now.values.items targets.now stops.now }
+        ensures written { AreTableSumsWritten (only self.now.0 self.now.1) sources.now targets.now kept.now.values.items weights.new sums.new result }
+        ensures behind { StaysFrom result.count weights.old weights.new × StaysFrom result.count sums.old sums.new }
+        ensures scratch { scratch.new ≡ scratch.old }
+    {
+        let mut first = 0;
+        for i in 0..sources.len() {
+            let source = sources[i];
+            let (count, end) = self.write_row(
+                alloc, scratch, kept, source, targets, stops, room, first, weights, sums,
+            );
+            first += count;
+            if !is_all(end) {
+                return ended(first, end);
+            }
+        }
+        ended(first, SumsEnd::All)
+    }
+
+    /// Finds where the trees of a row meet, and writes its cells from the place `first` on. Returns their number, and why
+    /// no more were written.
+    fn write_row(
+        &self,
+        alloc: Global,
+        scratch: &mut Scratch,
+        kept: &KeptSums,
+        source: u32,
+        targets: &[u32],
+        stops: &Rows<Stop>,
+        room: &mut TreeRoom,
+        first: usize,
+        weights: &mut [u64],
+        sums: &mut [u64],
+    ) -> (usize, SumsEnd)
+        requires scratch { scratch.old ≡ nodes_of self.now.0 }
+        requires source { source < nodes_of self.now.0 }
+        requires targets { AreNodes (nodes_of self.now.0) targets.now }
+        requires values { length kept.now.values.items ≡ self.now.1.count }
+        requires lines { IsOfSome self.now.0 self.now.1 }
+        requires kept { AreKeptSums self.now.0 self.now.1 kept.now }
+        requires count { length stops.now ≡ nodes_of self.now.0 }
+        requires stops { AreStops self.now.0 self.now.1 kept.now.values.items targets.now stops.now }
+        requires fits { (first + length targets.now ≤ length weights.old) × (first + length targets.now ≤ length sums.old) }
+        ensures cells { AreRowSums (only self.now.0 self.now.1) kept.now.values.items source targets.now first weights.new sums.new result.0 }
+        ensures end { IsRowEnd (only self.now.0 self.now.1) kept.now.values.items source targets.now result.0 result.1 }
+        ensures before { (k : ℕ) → k < first → (slice_index weights.new k ≡ slice_index weights.old k) × (slice_index sums.new k ≡ slice_index sums.old k) }
+        ensures behind { StaysFrom (first + result.0) weights.old weights.new × StaysFrom (first + result.0) sums.old sums.new }
+        ensures lengths { (length weights.new ≡ length weights.old) × (length sums.new ≡ length sums.old) }
+        ensures scratch { scratch.new ≡ scratch.old }
+    {
+        let Ok(row) = self.find_row(alloc, scratch, kept, source, targets, stops, room) else {
+            return (0, SumsEnd::NoMemory);
+        };
+        self.write_row_sums(
+            alloc, scratch, kept, source, targets, &row, first, weights, sums,
+        )
+    }
+
+    /// Writes the cells of a row from the place `first` on. Returns their number, and why no more were written.
+    fn write_row_sums(
+        &self,
+        alloc: Global,
+        scratch: &mut Scratch,
+        kept: &KeptSums,
+        source: u32,
+        targets: &[u32],
+        row: &[Option<Met>],
+        first: usize,
+        weights: &mut [u64],
+        sums: &mut [u64],
+    ) -> (usize, SumsEnd)
+        requires scratch { scratch.old ≡ nodes_of self.now.0 }
+        requires source { source < nodes_of self.now.0 }
+        requires targets { AreNodes (nodes_of self.now.0) targets.now }
+        requires values { length kept.now.values.items ≡ self.now.1.count }
+        requires lines { IsOfSome self.now.0 self.now.1 }
+        requires row { AreCells self.now.0 self.now.1 kept.now.values.items source targets.now row.now }
+        requires fits { (first + length targets.now ≤ length weights.old) × (first + length targets.now ≤ length sums.old) }
+        ensures cells { AreRowSums (only self.now.0 self.now.1) kept.now.values.items source targets.now first weights.new sums.new result.0 }
+        ensures end { IsRowEnd (only self.now.0 self.now.1) kept.now.values.items source targets.now result.0 result.1 }
+        ensures before { (k : ℕ) → k < first → (slice_index weights.new k ≡ slice_index weights.old k) × (slice_index sums.new k ≡ slice_index sums.old k) }
+        ensures behind { StaysFrom (first + result.0) weights.old weights.new × StaysFrom (first + result.0) sums.old sums.new }
+        ensures lengths { (length weights.new ≡ length weights.old) × (length sums.new ≡ length sums.old) }
+        ensures scratch { scratch.new ≡ scratch.old }
+    {
+        for c in 0..targets.len() {
+            match self.cell_sum(alloc, scratch, kept, source, targets[c], row[c]) {
+                Ok((weight, sum)) => write_pair(first + c, weight, sum, weights, sums),
+                Err(end) => return (c, end),
+            }
+        }
+        (targets.len(), SumsEnd::All)
+    }
+
+    /// Returns the weight and the sum of a cell whose trees meet here, or why there are none.
+    fn cell_sum(
+        &self,
+        alloc: Global,
+        scratch: &mut Scratch,
+        kept: &KeptSums,
+        source: u32,
+        target: u32,
+        met: Option<Met>,
+    ) -> Result<(u64, u64), SumsEnd>
+        requires scratch { scratch.old ≡ nodes_of self.now.0 }
+        requires source { source < nodes_of self.now.0 }
+        requires target { target < nodes_of self.now.0 }
+        requires values { length kept.now.values.items ≡ self.now.1.count }
+        requires lines { IsOfSome self.now.0 self.now.1 }
+        requires met { IsCell self.now.0 self.now.1 kept.now.values.items source target met }
+        ensures cell { IfOk result (λ found. IsPairSum (only self.now.0 self.now.1) kept.now.values.items source target found.0 found.1) }
+        ensures refused { IfErr result (IsCellEnd (only self.now.0 self.now.1) kept.now.values.items source target) }
+        ensures scratch { scratch.new ≡ scratch.old }
+    {
+        if let Some(found) = known_cell(met) {
+            return Ok(found);
+        }
+        let Ok(answer) = self.route_between(alloc, scratch, source, target) else {
+            return Err(SumsEnd::NoMemory);
+        };
+        match self.sum_along(&answer, &kept.values) {
+            Some(sum) => Ok((weight_of(&answer), sum)),
+            None => Err(SumsEnd::TooLarge),
+        }
+    }
+
+    /// Returns the route between two nodes.
+    fn route_between(
+        &self,
+        alloc: Global,
+        scratch: &mut Scratch,
+        source: u32,
+        target: u32,
+    ) -> Result<Option<Route>, AllocError>
+        requires scratch { scratch.old ≡ nodes_of self.now.0 }
+        requires source { source < nodes_of self.now.0 }
+        requires target { target < nodes_of self.now.0 }
+        ensures route { IfOk result (IsFound self.now.0 source target) }
+        ensures scratch { scratch.new ≡ scratch.old }
+    {
+        route(alloc, self.hierarchy(), scratch, source, target)
+    }
+}
+
+/// Returns the weight and the sum of a cell whose trees meet here, if the sum is known.
+fn known_cell(met: Option<Met>) -> Option<(u64, u64)>
+    ensures { (H : LevelsAndLegs) (lines : Lines) (values : List ℕ) (s t : ℕ) → IsOfSome H lines → t < nodes_of H → IsCell H lines values s t met → MatchOption result ⊤ (λ found. IsPairSum (only H lines) values s t found.0 found.1) }
+{
+    let Some(first) = met else {
+        return Some((NO_DISTANCE, 0));
+    };
+    let sum = first.sum;
+    if sum == UNKNOWN {
+        return None;
+    }
+    Some((first.cost.weight, sum))
+}
+
+/// Returns whether all cells of a row were written.
+fn is_all(end: SumsEnd) -> bool
+    ensures whole { result ≡ true → IsWhole end }
+    ensures early { result ≡ false → IsEarly end }
+{
+    match end {
+        SumsEnd::All => true,
+        SumsEnd::TooLarge => false,
+        SumsEnd::NoMemory => false,
+    }
+}
+
+/// Returns what became of a table after so many cells.
+fn ended(cells: usize, end: SumsEnd) -> Summed
+    ensures { (result.count ≡ cells) × (result.end ≡ end) }
+{
+    Summed {
+        count: cells as u64,
+        end,
+    }
+}

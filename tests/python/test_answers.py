@@ -1,0 +1,189 @@
+"""Tests that each call answers random graphs as scipy, networkx and numpy do, or Dijkstra's algorithm on whole numbers of any size.
+
+The networks are made of columns of every form, of frames, graphs of networkx, files and folders, by one thread and by several, and in the order of others.
+"""
+import pytest
+
+from helpers.cases import Case
+from helpers.columns import arcs_of, drawn, forms_of, labels_drawn, least_of
+from helpers.maps import COUNTRY
+from helpers.nearness import dense_owed, rows_owed, rows_told, small_blocks, small_portions, sums_owed
+from helpers.running import PROGRAM
+from helpers.science import networkx, numpy, pandas
+from helpers.writing import write_graph
+import chtab
+from chtab import files
+
+pytestmark = pytest.mark.usefixtures("program")
+# Graphs of each way to make a network, and questions about what is near in each.
+GRAPHS, QUESTIONS = 12, 4
+# The most sources and targets of a block, its most pairs, and the threads that make blocks; and what one call of the library has: pairs, swept nodes and sources.
+BLOCKS = (2**16, 10**6, 1), (10, 10**6, 1), (10, 10**6, 3), (7, 30, 2), (64, 40, 1), (64, 10**6, 5)
+PORTIONS = (1 << 20, 0, 1 << 13), (1, 10**9, 7), (50, 10**9, 1), (1_000, 30_000, 100), (1 << 20, 1 << 24, 1 << 13)
+AGGREGATES = {"sum": numpy.sum, "mean": numpy.mean, "median": numpy.median, "std": numpy.std, "min": numpy.min, "max": numpy.max, "count": len}
+
+
+# Ways to make a network: each gives the network, the distances between its labels in their order, and its arcs by labels.
+
+
+def arcs_drawn(draw):
+    """Labels, the columns of arcs, the distances, and the arcs by labels."""
+    count, tails, heads, weights = drawn(draw)
+    labels = labels_drawn(draw, count)
+    arcs = list(zip(labels[tails].tolist(), labels[heads].tolist(), weights.tolist()))
+    return labels, (labels[tails], labels[heads], weights), least_of(count, zip(tails, heads, weights.tolist())), arcs
+
+
+def of_columns(draw, **more):
+    labels, columns, least, arcs = arcs_drawn(draw)
+    return chtab.Network.from_arrays(*(forms_of(draw, column) for column in columns), nodes=forms_of(draw, labels), program=PROGRAM, **more), least, arcs
+
+
+def in_a_folder(draw):
+    made, *owed = of_columns(draw, folder=(name := f"own {draw.integers(2**60)}"))
+    made.close()
+    return chtab.Network.open(name, program=PROGRAM), *owed
+
+
+def in_the_order_of_another(draw):
+    """As columns, or as a frame with a unit, with the nodes of a network of other arcs, and any share of nodes ordered afresh; the other one answers on."""
+    labels, columns, least, arcs = arcs_drawn(draw)
+    ends = draw.integers(0, len(labels), (2, 60))
+    with chtab.Network.from_arrays(*labels[ends], draw.integers(1, 40, 60), nodes=labels, program=PROGRAM) as other:
+        before, more = other.table(labels, labels), {"like": other, "fresh": int(draw.choice([0, 5, draw.integers(101), 100])), "program": PROGRAM}
+        if draw.random() < 0.5:
+            made = chtab.Network.from_arrays(*columns, **more)
+        else:
+            made = chtab.Network.from_frame(pandas.DataFrame(dict(zip("abc", columns))), "a", "b", "c", unit="metres", **more)
+        assert numpy.array_equal(other.table(labels, labels), before)
+    return made, least, arcs
+
+
+def of_a_file(draw):
+    """Weights are as large as may be, and zero."""
+    case = Case(int(draw.integers(2**30)))
+    write_graph("graph.gr", case.nodes, case.arcs)
+    least = numpy.array([[case.costs[tail].get(head, (-1, 0))[0] for head in case.costs] for tail in case.costs], numpy.int64)
+    return chtab.Network.open("graph.gr", program=PROGRAM), least, case.arcs
+
+
+def of_networkx(draw):
+    """Of each kind, by networkx's own search."""
+    labels, _, _, arcs = arcs_drawn(draw)
+    graph = (networkx.Graph, networkx.DiGraph, networkx.MultiGraph, networkx.MultiDiGraph)[draw.integers(4)]()
+    graph.add_nodes_from(labels.tolist())
+    graph.add_edges_from((tail, head, {"cost": weight}) for tail, head, weight in arcs)
+    lengths = dict(networkx.all_pairs_dijkstra_path_length(graph, weight="cost"))
+    least = numpy.array([[lengths[source].get(target, -1) for target in graph] for source in graph])
+    return chtab.Network.from_networkx(graph, "cost", None, program=PROGRAM), least, arcs if graph.is_directed() else arcs + [(head, tail, weight) for tail, head, weight in arcs]
+
+
+@pytest.mark.parametrize("way", [of_columns, in_a_folder, in_the_order_of_another, of_a_file, of_networkx])
+def test_each_call_answers_as_owed(way):
+    for seed in range(GRAPHS):
+        draw = numpy.random.default_rng(seed)
+        network, least, arcs = way(draw)
+        with network:
+            distances_as_owed(network, draw, least)
+            routes_as_owed(network, draw, least, arcs)
+            for _ in range(QUESTIONS):
+                near_as_owed(network, draw, least)
+            aggregates_as_owed(network, draw, least)
+
+
+def distances_as_owed(network, draw, least):
+    labels, count = network.labels, network.nodes
+    assert count == len(labels) == len(least) and not network.rounding and (network.unit or network.distances([]).dtype == numpy.int64)
+    limit = int(draw.choice([0, 7, least.max(), max(0, least.max() - 1)]))
+    assert numpy.array_equal(network.table(labels, labels.tolist(), missing=-1), least)
+    assert numpy.array_equal(network.table(labels.tolist(), labels, within=limit, missing=-1), numpy.where(least > limit, -1, least))
+    assert network.table([], labels).shape == (0, count) and network.table(labels, []).shape == (count, 0) and network.distances([]).shape == (0,)
+    rows, columns = draw.integers(0, count, (2, 20))
+    for pairs in (labels[rows], labels[columns]), (list(zip(labels[rows].tolist(), labels[columns].tolist())),):
+        assert numpy.array_equal(network.distances(*pairs, missing=-1), least[rows, columns])
+
+
+def routes_as_owed(network, draw, least, arcs):
+    rows, columns = draw.integers(0, network.nodes, (2, 20))
+    pairs, there = list(zip(network.labels[rows].tolist(), network.labels[columns].tolist())), set(arcs)
+    for route, pair, weight in zip(network.routes(pairs), pairs, least[rows, columns].tolist()):
+        assert (route.source, route.target, -1 if route.weight is None else route.weight) == (*pair, weight)
+        if weight < 0:
+            assert route.nodes is None
+        else:
+            assert there.issuperset(zip(route.nodes, route.nodes[1:], route.weights)), route
+            assert (route.nodes[0], route.nodes[-1], sum(route.weights)) == (*pair, weight), route
+
+
+def near_as_owed(network, draw, least):
+    """A question whose sources (None: all) and targets repeat, with a count, a limit that is often a distance, and a direction; in blocks and portions."""
+    labels, count = network.labels, network.nodes
+    sources = None if draw.random() < 0.4 else draw.integers(0, count, draw.integers(0, 30))
+    targets = draw.integers(0, count, draw.choice([0, 1, 5, 40]))
+    within = None if draw.random() < 0.4 else int(draw.choice([0, 2**50 if network.unit else 2**60, *least[least >= 0].tolist(), *(least[least > 0] - 1).tolist()]))
+    most, direction = None if draw.random() < 0.4 else int(draw.choice([1, 2, 5, 100])), ("to", "from")[draw.integers(2)]
+    question, own = (sources, targets, most, within, direction), numpy.arange(count) if sources is None else sources
+    turned = least if direction == "to" else least.T
+    given = None if sources is None else forms_of(draw, labels[sources]), forms_of(draw, labels[targets])
+    owed, (length, pairs, workers) = rows_owed(turned, own, targets, most, within), BLOCKS[draw.integers(len(BLOCKS))]
+    with small_blocks(length, pairs), small_portions(*PORTIONS[draw.integers(len(PORTIONS))]):
+        more = {"within": within, "direction": direction, "workers": workers}
+        near = network.near(*given, count=most, **more)
+        found, width = network.nearest_targets(*given, count=most or 3, **more), max(1, min(most or 3, len(targets)))
+        values, limits = draw.integers(-5, 9, len(targets)), [within or 7, 3]
+        sums = network.accessibility(values, limits, sources=given[0], targets=given[1], direction=direction, workers=workers)
+    assert rows_told(near) == owed, (question, rows_told(near), owed)
+    assert near.offsets.dtype == near.places.dtype == numpy.int64 and (network.unit or near.weights.dtype == numpy.int64)
+    assert near.sources.tolist() == labels[own].tolist() and near.targets.tolist() == labels[targets].tolist()
+    places, dense = dense_owed(rows_owed(turned, own, targets, most or 3, within), width)
+    assert found.places.tolist() == places and numpy.array_equal(numpy.where(found.mask, -1, found.weights), numpy.array(dense).reshape(len(own), width)), question
+    assert found.places.shape == (len(own), width) and numpy.array_equal(found.mask, found.places < 0)
+    wanted = [sums_owed(turned, own, targets, values.tolist(), limit) for limit in limits]
+    assert sums.shape == (len(own), 2) and sums.T.tolist() == wanted, (question, sums, wanted)
+
+
+def aggregates_as_owed(network, draw, least):
+    """Each aggregate of several columns of values within several limits, and sums and means of values that fade with the distance."""
+    labels, targets = network.labels, draw.integers(0, network.nodes, 25)
+    apart = numpy.where(least < 0, numpy.inf, least.astype(float))[:, targets]
+    values, limits = numpy.column_stack([draw.normal(size=25), draw.integers(0, 3, 25)]), [0, 12, 1_000]
+    for kind, call in AGGREGATES.items():
+        wanted = numpy.full((len(labels), 2, 3), 0.0 if kind in ("sum", "count") else numpy.nan)
+        for source, column, place in numpy.ndindex(wanted.shape):
+            near = values[apart[source] <= limits[place], column]
+            wanted[source, column, place] = call(near) if len(near) else wanted[source, column, place]
+        found = network.accessibility(values, limits, targets=labels[targets], aggregate=kind)
+        numpy.testing.assert_allclose(found, wanted, 1e-9, 1e-9, err_msg=kind)
+    shares = numpy.where(apart <= 12, 1 - apart / 12, 0)
+    some = shares.any(axis=1)
+    for kind, wanted in ("sum", shares @ values[:, 0]), ("mean", shares @ values[:, 0] / numpy.where(some, shares.sum(axis=1), 1)):
+        found = network.accessibility(values[:, 0], 12, targets=labels[targets], decay="linear", aggregate=kind)
+        numpy.testing.assert_allclose(found[some], wanted[some], 1e-9, 1e-9, err_msg=kind)
+
+
+def test_roads_answer_as_scipy():
+    """10,000 pairs of Liechtenstein, and a table, against scipy's own search; and nothing but places near few nodes in portions of each size."""
+    graph, draw = files.read_graph(f"{COUNTRY}.gr"), numpy.random.default_rng(38)
+    sources = draw.integers(1, graph.nodes + 1, 100)
+    pairs = numpy.column_stack([numpy.repeat(sources, 100), draw.integers(1, graph.nodes + 1, 10_000)])
+    wanted = least_of(graph.nodes, arcs_of(graph), sources - 1)
+    with chtab.Network.open(f"{COUNTRY}.gr", program=PROGRAM) as network:
+        assert network.unit == "milliseconds"
+        assert numpy.array_equal(network.distances(pairs), wanted[numpy.repeat(numpy.arange(100), 100), pairs[:, 1] - 1])
+        assert numpy.array_equal(network.table(sources, network.labels), wanted)
+        for portion in PORTIONS:
+            with small_portions(*portion):
+                rows = rows_told(network.near(sources, network.labels[:40], count=3, within=300_000))
+                assert rows == rows_owed(wanted, range(100), range(40), 3, 300_000), portion
+
+
+def test_half_a_million_arcs():
+    """A grid of 180,000 nodes with names of their own, in both directions, against scipy."""
+    draw, numbers = numpy.random.default_rng(57), numpy.arange(180_000).reshape(300, 600)
+    tails, heads = (numpy.concatenate([across.ravel(), down.ravel()])[:250_000] for across, down in ((numbers[:, :-1], numbers[:-1]), (numbers[:, 1:], numbers[1:])))
+    weights, labels = draw.integers(1, 1_000, len(tails)), draw.choice(10**12, 180_000, replace=False)
+    with chtab.Network.from_arrays(labels[tails], labels[heads], weights, nodes=labels, both_ways=True, workers=2, program=PROGRAM) as network:
+        assert len(network.graph.tails) == 500_000
+        some, others = draw.choice(len(labels), (2, 100))
+        arcs = zip(numpy.append(tails, heads), numpy.append(heads, tails), numpy.tile(weights, 2))
+        assert numpy.array_equal(network.table(labels[some[:10]], labels[others]), least_of(180_000, arcs, some[:10])[:, others])
