@@ -304,7 +304,8 @@ def an_address_takes_its_share():
     others = "127.0.0.2", "127.0.0.4", "10.1.0.1", "10.1.1.1"
     with faulty_service("", "--waiting", "12", "--proxy", "127.0.0.3", "--log", "access.log") as (_, address):
         def table(place):
-            return f"/table/v1/car/{9.52 + place / 1000:.3f},47.1410;9.5450,47.2200"
+            # Tables of durations alone would be answered together, and what is underway makes no room.
+            return f"/table/v1/car/{9.52 + place / 1000:.3f},47.1410;9.5450,47.2200?annotations=duration,distance"
 
         def greedy(place):
             return Client(address, "127.0.0.1").ask(table(place))[0]
