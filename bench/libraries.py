@@ -3,6 +3,8 @@ import subprocess
 import time
 
 import measure
+from scipy.sparse import csr_matrix
+from scipy.sparse.csgraph import dijkstra
 
 
 def items_of(path, letter):
@@ -11,33 +13,24 @@ def items_of(path, letter):
         return [tuple(map(int, line.split()[1:])) for line in file if line.startswith(letter + " ")]
 
 
-def by_scipy(graph, queries):
-    """The mean CPU seconds of scipy.sparse.csgraph.dijkstra, which always goes to all nodes, and the distances as words. None without scipy."""
-    try:
-        import scipy.sparse
-        import scipy.sparse.csgraph
-    except ImportError:
-        return None
+def matrix_of(graph, nodes):
+    """The graph in scipy's form. Of several arcs with the same ends the least counts."""
     least = {}
-    for start, end, weight in items_of(graph, "a"):
-        least[start - 1, end - 1] = min(weight, least.get((start - 1, end - 1), weight))
-    starts, ends = zip(*least)
-    nodes = measure.nodes_of(graph)
-    matrix = scipy.sparse.csr_matrix((list(map(float, least.values())), (starts, ends)), shape=(nodes, nodes))
-    distances, seconds = [], 0.0
-    for start, end in items_of(queries, "q"):
-        begin = time.process_time()
-        found = scipy.sparse.csgraph.dijkstra(matrix, indices=start - 1)[end - 1]
-        seconds += time.process_time() - begin
-        distances.append("-" if found == float("inf") else str(int(found)))
-    return seconds / len(distances), distances
+    for tail, head, weight in items_of(graph, "a"):
+        least[tail - 1, head - 1] = min(weight, least.get((tail - 1, head - 1), weight))
+    tails, heads = zip(*least)
+    return csr_matrix((list(map(float, least.values())), (tails, heads)), shape=(nodes, nodes))
 
 
-def ratio(graph, queries, seconds, saved):
-    """The time of a query by scipy as so many times these seconds, or None without scipy. It has to find the distances that the program finds."""
-    command = [measure.PROGRAM, "dist", "--saved", saved, graph, queries]
+def ratio(inputs, queries, seconds, saved):
+    """The time of a query by scipy, which always goes to all nodes, as so many times these seconds. It has to find the distances of the program."""
+    matrix, found, pairs = matrix_of(inputs.graph, inputs.nodes), [], items_of(queries, "q")
+    begin = time.process_time()
+    for start, end in pairs:
+        found.append(dijkstra(matrix, indices=start - 1)[end - 1])
+    taken = (time.process_time() - begin) / len(pairs)
+    command = [measure.PROGRAM, "dist", "--saved", saved, inputs.graph, queries]
     wanted = [line.split()[3] for line in subprocess.run(command, stdout=subprocess.PIPE, text=True, check=True).stdout.splitlines()]
-    found = by_scipy(graph, queries)
-    if found and found[1] != wanted:
-        raise SystemExit(f"{graph}: scipy finds other distances")
-    return found and found[0] / seconds
+    if wanted != ["-" if each == float("inf") else str(int(each)) for each in found]:
+        raise SystemExit(f"{inputs.graph}: scipy finds other distances")
+    return taken / seconds

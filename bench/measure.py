@@ -1,4 +1,5 @@
 """For the measurements: inputs from a fixed seed, and runs of the built program with their time and memory."""
+import argparse
 import contextlib
 import datetime
 import math
@@ -6,6 +7,7 @@ import os
 import pathlib
 import platform
 import random
+import resource
 import statistics
 import subprocess
 import tempfile
@@ -64,40 +66,35 @@ class Used(typing.NamedTuple):
     processor: float
 
 
-def used(*command, refused=False, output=os.devnull, told=None):
-    """The seconds, the megabytes at the peak and the seconds of all processors of one run, which ends well or by refusing a file. What it
-    prints goes to a file, or nowhere; what it tells goes to a file, if one is named, and of a refusal nowhere."""
+def used(*command, output=os.devnull, told=None):
+    """The seconds, the megabytes at the peak and the seconds of all processors of one run. What it prints goes to a file, or nowhere, and what it
+    tells to a file if one is named."""
     with contextlib.ExitStack() as files:
         printed_to = files.enter_context(open(output, "wb"))
-        told_to = files.enter_context(open(told, "wb")) if told else subprocess.DEVNULL if refused else None
+        told_to = files.enter_context(open(told, "wb")) if told else None
         start = time.perf_counter()
         process = subprocess.Popen([str(word) for word in command], stdout=printed_to, stderr=told_to)
         _, status, usage = os.wait4(process.pid, 0)
         seconds = time.perf_counter() - start
-    if os.waitstatus_to_exitcode(status) != refused:
+    if status:
         raise SystemExit(f"{command} ended with {status}")
     return Used(seconds, usage.ru_maxrss / 1024, usage.ru_utime + usage.ru_stime)
 
 
-def processor_seconds(*command, refused=False):
-    """What one run takes of all processors: on a machine with other work it says more than the time."""
-    return used(*command, refused=refused).processor
+def spent():
+    """The CPU seconds of this process and of those that it waited for."""
+    return sum(usage.ru_utime + usage.ru_stime for usage in map(resource.getrusage, (resource.RUSAGE_SELF, resource.RUSAGE_CHILDREN)))
 
 
-def seconds(*command, refused=False):
-    """The time of one run."""
-    return used(*command, refused=refused).seconds
-
-
-def each_round(rounds, commands, taken=seconds, refused=()):
-    """The seconds of each command of a dictionary, each run once a round: a dictionary a round. Those named refuse a file."""
-    return [{name: taken(*command, refused=name in refused) for name, command in commands.items()} for _ in range(rounds)]
+def each_round(rounds, commands):
+    """What each command of a dictionary took, each run once a round: a dictionary a round."""
+    return [{name: used(*command) for name, command in commands.items()} for _ in range(rounds)]
 
 
 def alternating(rounds, commands):
-    """The median of the seconds of each command of a dictionary, each run once a round."""
+    """The median of the CPU seconds of each command of a dictionary, each run once a round."""
     taken = each_round(rounds, commands)
-    return {name: statistics.median(each[name] for each in taken) for name in commands}
+    return {name: statistics.median(each[name].processor for each in taken) for name in commands}
 
 
 def spread(values, form=",.2f"):
@@ -258,6 +255,12 @@ def network(word):
     return Great(int(word)) if int(word) > MOST_NODES_IN_PYTHON else Inputs(int(word))
 
 
-def add_networks(parser, *default):
-    """The words of a script that name its networks."""
-    parser.add_argument("networks", nargs="*", metavar="NETWORK", default=default, help=f"{NETWORKS} ({', '.join(default)} where none is given)")
+def words(about, *networks, **options):
+    """What the command line gives: the value of each of these options, or the one named here, and networks, or those named here."""
+    parser = argparse.ArgumentParser(description=about, formatter_class=argparse.RawDescriptionHelpFormatter)
+    for name, value in options.items():
+        many = {"type": int, "nargs": "+"} if isinstance(value, list) else {"type": type(value)}
+        parser.add_argument(f"--{name}", default=value, **({"action": "store_true"} if value is False else many))
+    if networks:
+        parser.add_argument("networks", nargs="*", metavar="NETWORK", default=networks, help=f"{NETWORKS} ({', '.join(networks)} where none is given)")
+    return parser.parse_args()
