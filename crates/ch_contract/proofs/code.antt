@@ -18,3 +18,4 @@ pub mod Neighbours
 pub mod NodeLists
 pub mod NodeBounds
 pub mod Counted
+pub mod Near

@@ -30,4 +30,5 @@ pub mod KnownCosts
 pub mod LegLists
 pub mod Meeting
 pub mod Rooms
+pub mod Near
 pub mod Neighbours

@@ -1,11 +1,9 @@
 -- The measures of nodes, and the priorities of the remaining nodes.
-use Rattle.std.specs.Prelude.{◌≡◌, ℕ, ◌≤◌, List, length, slice_index, max, Contains, ℤ}
+use Rattle.std.specs.Prelude.{◌≡◌, ℕ, ◌≤◌, List, length, slice_index, max, Contains}
 use Rattle.ch_contract.specs.declared.measure.Measure.{Measure}
-use Rattle.ch_contract.specs.declared.measure.OrderBy.{OrderBy}
 use Rattle.ch_contract.specs.declared.shortcut.Shortcut.{Shortcut}
 use Rattle.ch_contract.specs.Legs.{Legs}
-use Rattle.ch_contract.specs.Contraction.{AreShortcuts, count_touching, IsPriorityBy}
-use Rattle.ch_contract.specs.Remaining.{RemainingLegs, legs_of}
+use Rattle.ch_contract.specs.Contraction.{AreShortcuts, count_touching}
 
 -- the measure of v: the number of its shortcuts, and the number of legs that touch it
 abbrev pub IsMeasure : ℕ → ℕ → Legs → ℕ → Measure → Type 0
@@ -15,10 +13,6 @@ IsMeasure n h L v m = (list : List Shortcut) × AreShortcuts n h L v list × (m.
 abbrev pub IsMeasureUpTo : ℕ → ℕ → ℕ → Legs → ℕ → Measure → Type 0
 IsMeasureUpTo most n h L v m = (list : List Shortcut) × AreShortcuts n h L v list × (m.shortcuts ≤ length list)
     × (m.shortcuts ≤ most → m.shortcuts ≡ length list) × (m.legs ≡ count_touching n L v)
-
--- the priority of a node with the remaining legs, where this list has the depth of each node
-abbrev pub IsPriorityIn : OrderBy → RemainingLegs → ℕ → List ℕ → ℕ → ℤ → Type 0
-IsPriorityIn by r h depths = IsPriorityBy by r.nodes h (legs_of r) (λ x. slice_index depths x)
 
 -- these nodes now have at least this depth, and the others keep their depths
 pub record AreDeepened (nodes : List ℕ) (deep : ℕ) (before after : List ℕ) : Type 0 where

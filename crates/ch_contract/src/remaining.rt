@@ -4,6 +4,7 @@ mod candidates;
 mod contraction;
 pub(crate) mod judging;
 mod light;
+mod near;
 mod opening;
 mod shortcuts;
 mod witnesses;

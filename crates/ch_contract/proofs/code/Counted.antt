@@ -14,7 +14,7 @@ use Rattle.ch_contract.proofs.theory.ReferenceSearch.{some_of}
 use Rattle.ch_contract.proofs.theory.ShortcutsListed.{shortcuts_among}
 
 -- legs within the limits lead to nodes
-leads : (n : ℕ) (L : Legs) → AreLegsWithin n L → LeadsWithin n L
+pub leads : (n : ℕ) (L : Legs) → AreLegsWithin n L → LeadsWithin n L
 leads n L limits u x some = let l = some_of (L u x) some in (limits u x l.0 l.1).ends.1
 
 -- no pair comes before one that comes before it
@@ -29,7 +29,7 @@ never_own : (s t : Shortcut) → s ≡ t → IsPairBefore s t → ⊥
 never_own s t e before = never_back s t before (subst (λ x. IsPairBefore t x) (sym e) (subst (λ x. IsPairBefore x t) e before))
 
 -- of two lists in order, one whose members are all in the other is no longer
-fewer : (some all : List Shortcut) → AllPairs IsPairBefore some → AllPairs IsPairBefore all →
+pub fewer : (some all : List Shortcut) → AllPairs IsPairBefore some → AllPairs IsPairBefore all →
     ((s : Shortcut) → Contains some s → Contains all s) → length some ≤ length all
 fewer [] all p q within = omega arith
 fewer (s ∷ some) [] p q within = absurd (contains_none s (within s (contains_head s some)))
