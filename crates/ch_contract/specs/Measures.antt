@@ -1,4 +1,4 @@
--- The measures of nodes, and the priorities of the remaining nodes.
+-- The measures of nodes, and the depths of neighbours.
 use Rattle.std.specs.Prelude.{◌≡◌, ℕ, ◌≤◌, List, length, slice_index, max, Contains}
 use Rattle.ch_contract.specs.declared.measure.Measure.{Measure}
 use Rattle.ch_contract.specs.declared.shortcut.Shortcut.{Shortcut}
