@@ -302,17 +302,18 @@ def an_address_takes_its_share():
     """One address with many requests keeps no other waiting: those of others that come later are answered before its last ones. With a proxy it is the
     client that the proxy names."""
     others = "127.0.0.2", "127.0.0.4", "10.1.0.1", "10.1.1.1"
-    with faulty_service("", "--waiting", "12", "--proxy", "127.0.0.3", "--log", "access.log") as (_, address):
-        def table(place):
-            # Tables of durations alone would be answered together, and what is underway makes no room.
-            return f"/table/v1/car/{9.52 + place / 1000:.3f},47.1410;9.5450,47.2200?annotations=duration,distance"
+    # Each question takes so long that their order does not depend on which thread the system lets go on first.
+    with faulty_service("slow=0.2", "--waiting", "12", "--proxy", "127.0.0.3", "--log", "access.log") as (_, address):
+        def trip(place):
+            # Trips are never answered together: what is underway makes no room.
+            return f"/trip/v1/car/{9.52 + place / 1000:.3f},47.1410;9.5450,47.2200?overview=false"
 
         def greedy(place):
-            return Client(address, "127.0.0.1").ask(table(place))[0]
+            return Client(address, "127.0.0.1").ask(trip(place))[0]
 
         def other(client):
             source, headers = (client, {}) if client.startswith("127.") else ("127.0.0.3", {"X-Forwarded-For": f"10.0.0.9, {client}"})
-            return Client(address, source).ask(table(30), headers=headers)[0]
+            return Client(address, source).ask(trip(30), headers=headers)[0]
 
         with concurrent.futures.ThreadPoolExecutor(40) as clients:
             waiting = []

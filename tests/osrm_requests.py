@@ -25,7 +25,7 @@ from helpers.asking_osrm import ESCHEN, PLAIN, TENTH, VADUZ, answer, get, on_sph
 from helpers.maps import tool
 from helpers.packages import PYTHON, run_checks
 from helpers.running import PROGRAM, ROOT
-from helpers.serving import BROWSER, COUNTRY, SERVICE, on_all_maps, send, service, shown_page
+from helpers.serving import BROWSER, COUNTRY, SERVICE, here, on_all_maps, send, service, shown_page
 from helpers.waiting import PATIENCE
 
 # How many requests with drawn options are asked.
@@ -153,21 +153,31 @@ def requests_are_posted():
 
 
 def any_options_get_an_answer():
-    """Requests with all options, drawn, some strange: each is answered, or refused by a line, and nothing is told on standard error."""
+    """Requests with all options, drawn, some strange, in the address or in a body: each is answered, or refused by a line, and nothing is told on
+    standard error."""
     draw, counts = random.Random("any options"), collections.Counter()
     places = [*three(), *some_nodes(20, "any options")[1]]
-    with service() as (_, address):
+    with service(None, "--network", f"car={here()}", "--network", f"car/toll={here()}") as (_, address):
         connection = http.client.HTTPConnection(address.hostname, address.port, timeout=PATIENCE)
-        for _ in range(REQUESTS):
-            target = drawn_request(draw, places)
-            connection.request("GET", target)
+
+        def asked(method, target, body=None):
+            connection.request(method, target, body)
             found = connection.getresponse()
             value = json.loads(found.read())
-            assert found.status in (200, 400) and (found.status == 200) == (value["code"] == "Ok"), (target, found.status, value)
+            assert found.status in (200, 400) and (found.status == 200) == (value["code"] == "Ok"), (target, body, found.status, value)
+            return value
+
+        for _ in range(REQUESTS):
+            target = drawn_request(draw, places)
+            value = asked("GET", target)
             counts[target.split("/")[1], value["code"]] += 1
+            counts["toll", value["code"]] += "exclude=toll" in target
+            if draw.random() < 0.2:
+                head, tail = target.split("/v1/car/")
+                assert asked("POST", f"{head}/v1/car", tail) == value, target
         connection.close()
     assert open("told").read() == "", open("told").read()
-    assert all(counts[name, "Ok"] > REQUESTS / 100 for name in ("route", "table", "nearest", "trip", "match")), counts
+    assert all(counts[name, "Ok"] > REQUESTS / 100 for name in ("route", "table", "nearest", "trip", "match", "toll")), counts
 
 
 def raw_answer(address, sent):

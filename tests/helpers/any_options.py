@@ -1,5 +1,6 @@
 """Requests in OSRM's form with options that are drawn, most of them as they should be, some strange."""
 import math
+import urllib.parse
 
 WORDS = ("", "true", "false", "x", "0", "1", "-1", "all", "nan", "1e9", "%00", "any", "default", "unlimited")
 OF_LINES = {
@@ -8,14 +9,14 @@ OF_LINES = {
 }
 OF_ALL = {"generate_hints": ("true", "false"), "skip_waypoints": ("true", "false"), "snapping": ("default", "any"), "exclude": ("", "toll", "motorway")}
 OPTIONS = {
-    "route": OF_LINES | {"alternatives": ("true", "false", "3"), "continue_straight": ("default", "true", "false"), "waypoints": ("0;1", "0")},
+    "route": OF_LINES | {"alternatives": ("true", "false", "3"), "continue_straight": ("default", "true", "false")},
     "table": {
         "annotations": ("duration", "distance", "duration,distance"), "scale_factor": ("2", "0.5"), "fallback_speed": ("10", "0.5", "0"),
         "fallback_coordinate": ("input", "snapped"), "sources": ("0", "all", "1;0"), "destinations": ("1", "all", "0;1"),
     },
     "nearest": {"number": ("1", "3", "7")},
     "trip": OF_LINES | {"roundtrip": ("true", "false"), "source": ("any", "first"), "destination": ("any", "last")},
-    "match": OF_LINES | {"gaps": ("split", "ignore"), "tidy": ("true", "false"), "waypoints": ("0;1", "0")},
+    "match": OF_LINES | {"gaps": ("split", "ignore"), "tidy": ("true", "false")},
 }
 
 
@@ -45,6 +46,8 @@ def drawn_options(draw, service, count):
         found["approaches"] = elements(draw, count, "", "curb", "unrestricted")
     if draw.random() < 0.1:
         found["hints"] = elements(draw, count, "", "x-_=")
+    if service in ("route", "match") and draw.random() < 0.25:
+        found["waypoints"] = ";".join(str(place) for place in range(count) if place in (0, count - 1) or draw.random() < 0.5)
     if service == "match" and draw.random() < 0.4:
         found["timestamps"] = ";".join(str(place * draw.choice((5, 5, 70))) for place in range(count))
     if draw.random() < 0.08:
@@ -55,7 +58,7 @@ def drawn_options(draw, service, count):
 def drawn_request(draw, places):
     """The target of a request near some places."""
     service = draw.choice((*OPTIONS, "route", "table"))
-    count = 1 if service == "nearest" else draw.choice((2, 2, 3, 5))
+    count = 1 if service == "nearest" else draw.choice((2, 2, 3, 5, 12))
     if service == "match":
         x, y = drawn_place(draw, places)
         chosen = [(x + step * 0.0004, y + draw.gauss(0, 0.0002)) for step in range(count)]
@@ -64,5 +67,17 @@ def drawn_request(draw, places):
     if count > 2 and draw.random() < 0.2:
         chosen[1] = chosen[0]
     query = "&".join(f"{name}={value}" for name, value in drawn_options(draw, service, count).items())
-    text = ";".join(f"{max(-180, min(180, x)):.6f},{max(-90, min(90, y)):.6f}" for x, y in chosen)
+    text = text_of(draw, [(max(-180, min(180, x)), max(-90, min(90, y))) for x, y in chosen])
     return f"/{service}/v1/car/{text}?{query}".rstrip("?")
+
+
+def text_of(draw, places):
+    """Places in one of the forms that an address may have them in."""
+    import polyline  # Debian's package is there once a check that needs it is begun.
+
+    luck = draw.random()
+    if luck < 0.1:
+        digits = draw.choice((5, 6))
+        return f"polyline{'6' * (digits == 6)}({urllib.parse.quote(polyline.encode([(y, x) for x, y in places], digits))})"
+    text = ";".join(f"{x:.6f},{y:.6f}" for x, y in places)
+    return urllib.parse.quote(text) if luck < 0.15 else f"{text}.json" if luck < 0.2 else text

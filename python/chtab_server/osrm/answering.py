@@ -361,15 +361,16 @@ class Answers:
     def tables(self, questions: Sequence[Question]) -> list[str | Refusal]:
         """The answers to questions for tables, as texts or faults. Small ones of as many places are
         found together."""
-        sizes: dict[int, list[int]] = {}
+        sizes: dict[tuple[int, bool], list[int]] = {}
         found: dict[int, str | Refusal] = {}
         for place, question in enumerate(questions):
             if self.is_small(question):
-                sizes.setdefault(len(question.coordinates), []).append(place)
-        for count, which in sizes.items():
+                key = len(question.coordinates), question.own.has_distances
+                sizes.setdefault(key, []).append(place)
+        for (count, has_distances), which in sizes.items():
             if len(which) > 1:
                 own = [questions[place] for place in which]
-                found |= zip(which, self.small_tables(own, count))
+                found |= zip(which, self.small_tables(own, count, has_distances))
         for place, question in enumerate(questions):
             if place not in found:
                 try:
@@ -383,14 +384,20 @@ class Answers:
         count = len(question.coordinates)
         return small_tables.is_small(question.general, question.own, count, self.network.roads)
 
-    def small_tables(self, questions: Sequence[Question], count: int) -> Iterator[str]:
+    def small_tables(
+        self, questions: Sequence[Question], count: int, has_distances: bool,
+    ) -> Iterator[str]:
         """The answers to questions for small tables of so many places each."""
         spots, waypoints = self.places.found(coordinates_of(questions))
-        rows = small_tables.rows_of(self.network._trips, spots, count)
-        for place, (question, text) in enumerate(zip(questions, rows)):
+        rows = small_tables.rows_of(self.network._trips, spots, count, has_distances)
+        for place, (question, (durations, distances)) in enumerate(zip(questions, rows)):
             listed = objects(waypoints[place * count:(place + 1) * count], question.general)
-            more = "" if listed is None else f', "sources": {listed}, "destinations": {listed}'
-            yield f'{{"code": "Ok", "durations": {text}{more}}}'
+            parts = [f'"durations": {durations}'] if question.own.has_durations else []
+            if distances is not None:
+                parts.append(f'"distances": {distances}')
+            if listed is not None:
+                parts.append(f'"sources": {listed}, "destinations": {listed}')
+            yield f'{{"code": "Ok", {", ".join(parts)}}}'
 
     def table(self, question: Question) -> str:
         """The durations of a table, the metres of the routes that these are of, or both."""
