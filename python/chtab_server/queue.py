@@ -26,7 +26,7 @@ Call: TypeAlias = Callable[[list[Any]], Sequence[Any]]
 # The CPU seconds in which the loop may answer questions itself, while it does nothing else; the
 # part of them for which questions are taken together, because the next ones may take longer; and
 # the weight of the last answers in the estimate for the next ones.
-MOMENT, MARGIN, LATEST = 0.02, 0.5, 0.25
+MOMENT, MARGIN, LATEST = 0.02, 0.75, 0.25
 # By how much more may be done together at most than the last time, and the least seconds that can
 # be measured.
 GROWTH, SHORTEST = 1.25, 1e-6

@@ -3,7 +3,7 @@ each route."""
 from __future__ import annotations
 
 from dataclasses import dataclass
-from typing import TYPE_CHECKING, NamedTuple
+from typing import TYPE_CHECKING, Any, NamedTuple
 
 import numpy
 
@@ -35,11 +35,18 @@ class Walks:
 
     def sums(self, column: Integers) -> Integers:
         """For each walk the sum of a column over its arcs."""
-        return numpy.diff(numpy.append(0, numpy.cumsum(column))[self.firsts])
+        cuts = cuts_of(column)[self.firsts]
+        return cuts[1:] - cuts[:-1]
+
+
+def cuts_of(counts: Any) -> Integers:
+    """Where groups of so many items begin, one after the other, and where the last one ends."""
+    cuts = numpy.zeros(len(counts) + 1, numpy.int64)
+    counts.cumsum(out=cuts[1:])
+    return cuts
 
 
 def ranges(firsts: Integers, counts: Integers) -> Integers:
     """For each pair the `count` numbers from `first` on, all in one array."""
-    ends = numpy.cumsum(counts)
-    return (
-        numpy.arange(ends[-1] if len(ends) else 0) + numpy.repeat(firsts - (ends - counts), counts))
+    cuts = cuts_of(counts)
+    return numpy.arange(cuts[-1]) + (firsts - cuts[:-1]).repeat(counts)

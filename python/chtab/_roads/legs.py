@@ -13,7 +13,7 @@ from typing import TYPE_CHECKING, Any, NamedTuple
 
 import numpy
 
-from chtab._engine.walks import NO_WALK, Walks, ranges
+from chtab._engine.walks import NO_WALK, Walks, cuts_of, ranges
 from chtab.errors import mismatch
 from chtab._roads.snapping import NANOMETRE, NONE, Roads, Spots
 
@@ -96,11 +96,11 @@ class Legs:
 
     def pieces(self, which: Integers) -> Pieces:
         """What some legs lead along, each of which is a way."""
-        is_walk, arc_counts = self.is_walk[which], numpy.diff(self.walks.firsts)[which]
-        counts = 1 + arc_counts + is_walk
-        firsts = numpy.cumsum(counts) - counts
-        lasts, walked = (firsts + counts - 1)[is_walk], which[is_walk]
-        roads, weights = numpy.empty((2, counts.sum()), numpy.int64)
+        is_walk, walk_firsts = self.is_walk[which], self.walks.firsts[which]
+        arc_counts = self.walks.firsts[which + 1] - walk_firsts
+        cuts = cuts_of(1 + arc_counts + is_walk)
+        firsts, lasts, walked = cuts[:-1], (cuts[1:] - 1)[is_walk], which[is_walk]
+        roads, weights = numpy.empty((2, cuts[-1]), numpy.int64)
         own, heads = numpy.full(len(roads), NONE), numpy.zeros(len(roads), numpy.int64)
         starts, ends = numpy.empty((2, len(roads)))
         roads[firsts], starts[firsts] = self.starts.roads[which], self.starts.parts[which]
@@ -110,13 +110,13 @@ class Legs:
         starts[lasts], ends[lasts] = self.arrives[walked], self.ends.parts[walked]
         heads[firsts] = self.first_nodes[which]
         between = ranges(firsts + 1, arc_counts)
-        along = ranges(self.walks.firsts[which], arc_counts)
+        along = ranges(walk_firsts, arc_counts)
         arcs = self.arcs[along]
         roads[between], weights[between] = self.roads.road_of[arcs], self.walks.arc_weights[along]
         starts[between] = self.roads.is_back[arcs]
         ends[between] = ~self.roads.is_back[arcs]
         own[between], heads[between] = arcs, self.walks.heads[along]
-        return Pieces(roads, starts, ends, weights, own, heads, numpy.append(firsts, len(roads)))
+        return Pieces(roads, starts, ends, weights, own, heads, cuts)
 
     def traces(self, which: Sequence[int]) -> Traces:
         """The lines of some legs, each of which has a way."""
@@ -140,14 +140,14 @@ def traced(roads: Roads, pieces: Pieces, totals: Integers) -> Traces:
     metres = sums_before(lengths, pieces.firsts)[piece] + found.shares * lengths[piece]
     weights = numpy.round(found.shares * pieces.weights[piece]).astype(numpy.int64)
     weights += sums_before(pieces.weights, pieces.firsts)[piece]
-    cuts = numpy.append(0, numpy.cumsum(counts))[pieces.firsts]
+    cuts = cuts_of(counts)[pieces.firsts]
     weights[cuts[:-1]], weights[cuts[1:] - 1] = 0, totals
     # Of repeated places the last is kept, which includes the weight of pieces without a length.
     places, is_kept = found.places.round(6), numpy.ones(len(piece), bool)
     is_kept[:-1] = (places[1:] != places[:-1]).any(axis=1)
     is_kept[cuts[1:] - 1] = True
     nodes = nodes_of_places(roads, pieces, counts, cuts)[is_kept]
-    firsts = numpy.append(0, numpy.cumsum(is_kept))[cuts]
+    firsts = cuts_of(is_kept)[cuts]
     return Traces(places[is_kept], weights[is_kept], metres[is_kept], nodes, firsts)
 
 
@@ -177,8 +177,8 @@ def beside(roads: Roads, numbers: Integers, parts: Floats, is_below: Marks) -> I
 
 def sums_before(column: Any, firsts: Integers) -> Any:
     """For each item the sum of those before it in its group, from `firsts[k]` to the next."""
-    sums = numpy.cumsum(column) - column
-    return sums - numpy.repeat(sums[firsts[:-1]], numpy.diff(firsts))
+    sums = column.cumsum() - column
+    return sums - sums[firsts[:-1]].repeat(firsts[1:] - firsts[:-1])
 
 
 def weights_of_ways(trips: Trips, starts: Spots, ends: Spots) -> Integers:
@@ -354,7 +354,7 @@ def legs_by(trips: Trips, starts: Spots, ends: Spots, best: Integers, ways: Inte
     which = over.is_walk
     between[which], counts[which], arcs = trips.engine.paths(over.pairs[which])
     over.see_that_right(between, best)
-    weights, firsts = numpy.where(best < FAR, best, NO_WALK), numpy.append(0, numpy.cumsum(counts))
+    weights, firsts = numpy.where(best < FAR, best, NO_WALK), cuts_of(counts)
     walks = Walks(weights, firsts, roads.tails[arcs], roads.heads[arcs], roads.weights[arcs])
     if (walks.sums(walks.arc_weights) != between)[which].any():
         raise mismatch()

@@ -6,6 +6,7 @@ from typing import TYPE_CHECKING, Any, NamedTuple
 
 import numpy
 
+from chtab._engine.walks import cuts_of
 from chtab._roads.snapping import NONE
 from chtab_server.osrm import polylines
 from chtab_server.osrm.crossings import bearings
@@ -89,11 +90,11 @@ class Drawing:
     def stretch(self, places: Floats, counts: Integers) -> Stretch:
         """Stretches with so many places each, one after the other, rounded to millionths. Places
         that follow on themselves count once."""
-        ends, is_written = numpy.cumsum(counts), numpy.ones(len(places), bool)
+        begins, is_written = cuts_of(counts), numpy.ones(len(places), bool)
         is_written[1:] = (places[1:] != places[:-1]).any(axis=1)
-        is_written[ends - counts] = False
-        cuts = numpy.append(0, numpy.cumsum(is_written))[numpy.append(0, ends)]
-        has_places, after = cuts[1:] > cuts[:-1], numpy.flatnonzero(is_written)
+        is_written[begins[:-1]] = False
+        cuts = cuts_of(is_written)[begins]
+        has_places, after = cuts[1:] > cuts[:-1], is_written.nonzero()[0]
         ways = numpy.zeros((2, len(counts)), numpy.int64)
         both = after[numpy.concatenate([cuts[:-1][has_places], cuts[1:][has_places] - 1])]
         ways[:, has_places] = bearings(places[both - 1], places[both]).reshape(2, -1)
@@ -133,7 +134,7 @@ class Drawing:
     def lines_of(self, drawn: Drawn, counts: Integers) -> list[str]:
         """The lines of routes over some legs, so many of each route, each of which begins where the
         one before ends. A line has at least two places."""
-        legs = numpy.append(0, numpy.cumsum(counts))
+        legs = cuts_of(counts)
         cuts, texts = drawn.pieces.firsts[legs].tolist(), drawn.stretches.texts.tolist()
         begins = [drawn.begin_texts[leg] for leg in legs[:-1].tolist()]
         return self.full_lines(

@@ -6,14 +6,15 @@ from typing import TYPE_CHECKING
 
 import numpy
 
-from chtab_server.osrm.maneuvers import CONTINUE, END_OF_ROAD, NEW_NAME, SILENT, TURN
+from chtab_server.osrm.maneuvers import CONTINUE, END_OF_ROAD, NEW_NAME, SILENT, TURN, TYPES
 
 if TYPE_CHECKING:
     from chtab_server.osrm.rides import Passages, Pieces
     from chtab.typing import Floats, Integers, Marks
 
-# The maneuvers with which a new name is joined, and the metres within which it is.
-JOINING, NEAR = (TURN, CONTINUE, END_OF_ROAD), 30.0
+# Which maneuvers a new name is joined with, by their numbers, and the metres within which it is.
+IS_JOINING, NEAR = numpy.zeros(len(TYPES), bool), 30.0
+IS_JOINING[[TURN, CONTINUE, END_OF_ROAD]] = True
 
 
 def joined(passages: Passages, pieces: Pieces, metres: Floats) -> tuple[Passages, dict[int, int]]:
@@ -30,8 +31,8 @@ def joined(passages: Passages, pieces: Pieces, metres: Floats) -> tuple[Passages
     columns = pieces.legs[before], metres[pieces.numbers[before]], lasts[0] != lasts[1]
     # The last maneuver before each new name that is none, and the one right behind it.
     turn = numpy.maximum.accumulate(numpy.where(is_new, -1, numbers))
-    is_behind = is_new & may_join(doing, *columns, turn)
-    is_ahead = is_new & ~is_behind & may_join(doing, *columns, numbers + 1)
+    is_behind, is_ahead = is_new & may_join(doing, *columns, numpy.array([turn, numbers + 1]))
+    is_ahead &= ~is_behind
     ahead, behind = is_ahead.nonzero()[0], is_behind.nonzero()[0]
     found = dict(zip(acting[ahead + 1].tolist(), streets[ahead + 1].tolist()))
     found |= zip(acting[turn[behind]].tolist(), streets[behind].tolist())
@@ -43,9 +44,9 @@ def joined(passages: Passages, pieces: Pieces, metres: Floats) -> tuple[Passages
 def may_join(
     doing: Integers, legs: Integers, metres: Floats, leads_on: Marks, others: Integers,
 ) -> Marks:
-    """Whether each maneuver may be joined with another: with one of `JOINING` near it on its leg,
-    that does not lead back."""
+    """Whether each maneuver may be joined with `others` (2, n): with one of `IS_JOINING` near it on
+    its leg, that does not lead back."""
     is_there = (others >= 0) & (others < len(doing))
     others = numpy.where(is_there, others, 0)
     is_near = (legs == legs[others]) & (abs(metres - metres[others]) < NEAR)
-    return is_there & is_near & leads_on[others] & numpy.isin(doing[others], JOINING)
+    return is_there & is_near & leads_on[others] & IS_JOINING[doing[others]]

@@ -7,6 +7,7 @@ from typing import TYPE_CHECKING
 
 import numpy
 
+from chtab._engine.walks import cuts_of
 from chtab_server.osrm.options import Refusal
 
 if TYPE_CHECKING:
@@ -69,7 +70,7 @@ def letters(steps: Integers, cuts: Integers) -> list[str]:
     is_there = groups > 0
     is_there[:, 0] = True
     text = found[is_there].tobytes().decode("ascii")
-    before = numpy.append(0, numpy.cumsum(is_there.sum(axis=1)))
+    before = cuts_of(is_there.sum(axis=1))
     ends = before[2 * cuts].tolist()
     return [text[start:end] for start, end in zip(ends, ends[1:])]
 

@@ -37,10 +37,10 @@ class Pieces(NamedTuple):
 def pieces_of(crossings: Crossings, drawn: legs.Pieces) -> Pieces:
     """The pieces that drivers notice of those that legs lead along. What leads along no road is
     none, nor is a stretch without length, unless it is a whole leg."""
-    counts = numpy.diff(drawn.firsts)
+    counts = drawn.firsts[1:] - drawn.firsts[:-1]
     is_kept = (drawn.starts != drawn.ends) & (drawn.roads != NONE)
     is_kept[drawn.firsts[:-1][counts == 1]] = True
-    numbers = numpy.flatnonzero(is_kept)
+    [numbers] = is_kept.nonzero()
     arcs = drawn.arcs[numbers]
     ends = 2 * drawn.roads[numbers] + (drawn.starts[numbers] > drawn.ends[numbers])
     of_ends = crossings.street_of[ends]
@@ -69,7 +69,7 @@ class Rides:
 
     def __init__(self, crossings: Crossings, passing: Passing, pieces: Pieces) -> None:
         self.crossings, self.pieces = crossings, pieces
-        self.before = numpy.flatnonzero(pieces.legs[1:] == pieces.legs[:-1])
+        [self.before] = (pieces.legs[1:] == pieces.legs[:-1]).nonzero()
         self.kept, self.ways = passing.ways(pieces, self.before)
         self.new = pieces.streets[self.before + 1]
 
@@ -98,7 +98,7 @@ class Rides:
         -1 if there is none."""
         count = len(self.before)
         numbers, rings, behind = numpy.zeros(count, numpy.int64), *numpy.full((2, count), -1)
-        left, came = numpy.flatnonzero(kinds == EXIT), numpy.flatnonzero(kinds == ENTER)
+        [left], [came] = (kinds == EXIT).nonzero(), (kinds == ENTER).nonzero()
         rings[came] = self.before[came] + 1
         if not len(left):
             return numbers, rings, behind

@@ -9,7 +9,7 @@ from typing import TYPE_CHECKING, Any, NamedTuple
 
 import numpy
 
-from chtab._engine.walks import ranges
+from chtab._engine.walks import cuts_of, ranges
 from chtab._roads.legs import sums_before
 from chtab._roads.snapping import NONE
 from chtab_server.osrm import joining, polylines
@@ -60,11 +60,11 @@ class Order(NamedTuple):
 
 def order_of(counts: Integers) -> Order:
     """The order of the steps of legs with so many of them between departure and arrival."""
-    lasts = numpy.cumsum(counts + 2) - 1
+    lasts = (counts + 2).cumsum() - 1
     count = int(lasts[-1]) + 1
     is_inner = numpy.ones(count, bool)
     is_inner[lasts] = is_inner[lasts - counts - 1] = False
-    return Order(count, lasts - counts - 1, lasts, numpy.flatnonzero(is_inner))
+    return Order(count, lasts - counts - 1, lasts, is_inner.nonzero()[0])
 
 
 class Steps:
@@ -98,8 +98,8 @@ class Steps:
         rides = Rides(self.known, self.passing, pieces)
         passages, known = rides.passages(), rides.kept
         passages, joined = joining.joined(passages, pieces, lines.metres)
-        kept = numpy.flatnonzero((passages.kinds != SILENT) | known.is_crossing[passages.ways])
-        acting = numpy.flatnonzero(passages.kinds[kept] != SILENT)
+        [kept] = ((passages.kinds != SILENT) | known.is_crossing[passages.ways]).nonzero()
+        [acting] = (passages.kinds[kept] != SILENT).nonzero()
         done, numbers = kept[acting], numpy.arange(len(which) + 1)
         owners = pieces.legs[passages.before[kept]]
         cuts, turns = owners.searchsorted(numbers), owners[acting].searchsorted(numbers)
@@ -116,7 +116,8 @@ class Steps:
         # The crossings of a step are those up to the next step; an arrival has none. The text of a
         # maneuver has the crossing where it is.
         passed = order.column(cuts[:-1], acting, cuts[1:])
-        passed = numpy.append(passed[1:], passed[-1]) - passed
+        passed[:-1] = passed[1:] - passed[:-1]
+        passed[-1] = 0
         passed[order.inner] -= 1
         nodes = known.nodes[passages.ways[done]]
         begins = lines.drawing.at_nodes(nodes, self.known.roads.places[nodes - 1].round(6))
@@ -147,7 +148,7 @@ class Steps:
         """Puts the texts of steps at rings in place of those that don't know the exit. The steps at
         the passages `done` have the places `at`."""
         kinds = passages.kinds[done]
-        places = numpy.flatnonzero((kinds == ENTER) | (kinds == EXIT))
+        [places] = ((kinds == ENTER) | (kinds == EXIT)).nonzero()
         some = done[places]
         rings, behind, streets, before = (
             passages.rings[some], passages.behind[some], pieces.streets, passages.before[some])
@@ -228,8 +229,9 @@ class Lines:
         their end that the next step begins."""
         is_new = self.drawn.stretches.has_places.copy()
         is_new[self.firsts[:-1]] = True
-        lasts = numpy.append(numpy.flatnonzero(is_new)[1:], len(is_new)) - 1
-        return lasts[numpy.cumsum(is_new) - 1]
+        lasts = is_new.nonzero()[0] - 1
+        lasts[:-1], lasts[-1] = lasts[1:], len(is_new) - 1
+        return lasts[is_new.cumsum() - 1]
 
     def measured(self, order: Order, stops: Integers, begins: Any) -> Measured:
         """How long all steps are, and where they begin. Those between departure and arrival begin
@@ -238,13 +240,12 @@ class Lines:
         metres, weights = (
             order.column(0, known[reached], known[ends]) for known in (self.metres, self.weights))
         cuts = order.column(self.firsts[:-1], stops + 1, self.firsts[1:])
-        for column in metres, weights:
+        for column in metres, weights, cuts:
             column[:-1] = column[1:] - column[:-1]
             column[order.lasts] = 0
         starts = order.column(
             column_of(self.drawn.begin_texts), begins, column_of(self.drawn.last_texts))
-        return Measured(
-            metres.round(1), weights / 1_000, starts, numpy.append(cuts[1:], cuts[-1]) - cuts)
+        return Measured(metres.round(1), weights / 1_000, starts, cuts)
 
     def joined(
         self, order: Order, measured: Measured, members: Any, maneuvers: Any, passed: Integers,
@@ -258,7 +259,7 @@ class Lines:
         # crossings, and behind them.
         before, between, behind = 9, 3, 1
         sizes = before + measured.counts + between + passed + behind
-        firsts = numpy.cumsum(sizes) - sizes
+        firsts = sizes.cumsum() - sizes
         parts, middle = numpy.empty(int(sizes.sum()), object), firsts + before + measured.counts
         metres = column_of(list(map(repr, measured.metres.tolist())))
         for place, column in enumerate((
@@ -269,9 +270,8 @@ class Lines:
         parts[firsts[order.begins]] = '[{"distance": '
         parts[ranges(firsts + before, measured.counts)] = self.drawn.stretches.texts
         # A line has at least two places.
-        is_short = numpy.append(
-            0, numpy.cumsum(self.drawn.stretches.has_places))[numpy.cumsum(measured.counts)]
-        is_short = numpy.diff(is_short, prepend=0) == 0
+        places = cuts_of(self.drawn.stretches.has_places)[cuts_of(measured.counts)]
+        is_short = places[1:] == places[:-1]
         parts[middle] = ""
         parts[middle[is_short]] = (
             polylines.SAME if alone is None
@@ -299,9 +299,9 @@ class Lines:
         """The directions in which legs leave their first places, and come to their last ones; 0 of
         legs that stay at one place."""
         found, ways = self.drawn.stretches, numpy.zeros((2, len(self.firsts) - 1), numpy.int64)
-        with_places = numpy.flatnonzero(found.has_places)
+        [with_places] = found.has_places.nonzero()
         cuts = with_places.searchsorted(self.firsts)
-        moving = numpy.flatnonzero(cuts[1:] > cuts[:-1])
+        [moving] = (cuts[1:] > cuts[:-1]).nonzero()
         ways[0][moving], ways[1][moving] = (
             found.aheads[with_places[cuts[:-1][moving]]],
             found.cames[with_places[cuts[1:][moving] - 1]])
