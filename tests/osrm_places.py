@@ -31,7 +31,7 @@ from chtab_server.osrm.nearby import find_some, one_sided  # noqa: E402
 # What lies between the places of a leg, as annotations name it.
 PARTS = "duration", "distance", "weight", "speed", "datasources"
 # Queries of tables, of which the first ones are those of small tables.
-QUERIES = "", "", "annotations=duration", "skip_waypoints=true", "generate_hints=false", "sources=0", "scale_factor=2", "annotations=duration,distance"
+QUERIES = "", "", "annotations=duration", "skip_waypoints=true", "generate_hints=false", "sources=0", "scale_factor=2", "annotations=duration,distance", "annotations=distance"
 
 
 def bearings_choose_the_way():
