@@ -13,7 +13,6 @@ library.
 | `.ways` | the number of each arc's way in OpenStreetMap | `read_ways` | `write_ways` |
 | places | a longitude, a latitude and a name in each line | `read_places` | |
 | text of `dist` | distances and routes | `read_answers` | |
-| `.json` | the owner's labels of the nodes of a network | `read_labels` | `write_labels` |
 | text of `near` | the targets near each source | `read_near` | |
 | text of `table` | a row for each source | `read_rows` | `write_csv` |
 
@@ -29,18 +28,15 @@ from chtab._files.graphs import (
     write_graph, write_graph_columns)
 from chtab._files.labelling import Labelling, read_labels, write_labels
 from chtab._files.lists import (
-    Place, read_list, read_names, read_places, read_queries, write_list, write_list_column,
-    write_names, write_queries)
+    Place, read_list, read_names, read_places, read_queries, write_list, write_names, write_queries)
 from chtab._files.streets import SIDES, Street, Streets, read_streets, write_streets
-from chtab._files.texts import (Answer, read_answers, read_near, read_routes, read_rows, write_csv)
+from chtab._files.texts import Answer, read_answers, read_near, read_routes, read_rows, write_csv
 from chtab._files.way_numbers import read_ways, write_ways
 
+# The rest of what is imported here is for the packages of this distribution alone.
 __all__ = [
-    "SIDES", "UNITS", "Answer", "Coordinates", "FileFault", "Graph", "Labelling", "Place", "Street",
-    "Streets", "count_arcs", "count_nodes", "read_answers", "read_bends", "read_coordinates",
-    "read_graph", "read_labels", "read_list", "read_names", "read_near", "read_places",
-    "read_queries", "read_routes", "read_rows", "read_streets", "read_turns", "read_unit",
-    "read_ways", "scale_comment", "whole", "write_bends", "write_coordinate_columns",
-    "write_coordinates", "write_csv", "write_graph", "write_graph_columns", "write_labels",
-    "write_list", "write_list_column", "write_names", "write_queries", "write_streets",
-    "write_ways"]
+    "SIDES", "UNITS", "Answer", "Coordinates", "FileFault", "Graph", "Place", "Street", "Streets",
+    "read_answers", "read_bends", "read_coordinates", "read_graph", "read_list", "read_names",
+    "read_near", "read_places", "read_queries", "read_routes", "read_rows", "read_streets",
+    "read_ways", "write_bends", "write_coordinates", "write_csv", "write_graph", "write_list",
+    "write_names", "write_queries", "write_streets", "write_ways"]

@@ -20,7 +20,7 @@ import functools
 import inspect
 import os
 from collections.abc import Callable, Iterable, Mapping
-from typing import TYPE_CHECKING, Any, Literal, Self, TypeVar, cast
+from typing import TYPE_CHECKING, Any, Self, TypeVar, cast
 
 import numpy
 from numpy.typing import ArrayLike, NDArray
@@ -32,7 +32,7 @@ from chtab._engine.in_process import InProcess
 from chtab._engine.progress import Asked as Progress
 from chtab._engine.walks import NO_WALK
 from chtab.errors import ChtabError
-from chtab._files import frames, geojson
+from chtab._files import frames, geojson, row_index
 from chtab._files.measures import Asked, Limit
 from chtab._files.showing import table_text
 from chtab._near import blocks, questions
@@ -43,6 +43,7 @@ from chtab._roads.layers import layers_of
 from chtab._roads.routes import Routes, TripRoutes
 from chtab._roads.snapping import Roads, Spots, metres_in, places_in, see_that_near
 from chtab._roads.trips import Trips, limits_in
+from chtab.typing import Direction
 
 if TYPE_CHECKING:
     import distributed
@@ -57,10 +58,11 @@ if TYPE_CHECKING:
     from chtab._roads.reach import Isochrones
 
 Nodes = ArrayLike | Iterable
-Direction = Literal["to", "from"]
 Call = TypeVar("Call", bound=Callable[..., Any])
 # Up to this many pairs are asked for without arrays.
 FEW = 16
+# The columns of trips, which go together.
+DEMANDED = "origins", "destinations", "demand"
 
 
 # What all calls have in common.
@@ -170,10 +172,6 @@ class Network:
         library : str or path, optional
             The library for C, which answers; by default the one beside the program.
 
-        Returns
-        -------
-        Network
-
         Raises
         ------
         ProgramFault
@@ -256,10 +254,6 @@ class Network:
         program, workers, timeout, load, library : as `open` has them
             What builds the network, and how it answers.
 
-        Returns
-        -------
-        Network
-
         Raises
         ------
         DataFault
@@ -277,7 +271,6 @@ class Network:
         """
         running = opening.Running(
             program, workers, timeout, load, library, Asked(raw=raw), progress, like, fresh)
-        see_that_network(like)
         arcs = from_arcs.arcs_of_arrays(
             (sources, targets, weights), (nodes, x, y), scale, unit, both_ways, geometry, like)
         return cls._made(arcs, folder, running)
@@ -305,20 +298,12 @@ class Network:
             the weight: as `from_arrays` takes them.
         geometry : str, optional
             The name of the column with the lines of arcs.
-        nodes, x, y : array, optional
-            As `from_arrays` takes them.
-        scale, unit : float and str, optional
+        nodes, x, y, scale, unit : optional
             As `from_arrays` takes them.
         both_ways : bool, str, or array of bool, shape (m,)
             Whether each arc leads back too; or the name of a column of bools that says which do.
-        raw, folder : bool, str or path
-            As `from_arrays` takes them.
-        like, fresh, progress, program, workers, timeout, load, library : as `from_arrays` has them
-            What builds the network, and how it answers.
-
-        Returns
-        -------
-        Network
+        raw, folder, like, fresh, progress, program, workers, timeout, load, library : optional
+            As `from_arrays` takes them: units, files, what builds the network, how it answers.
 
         Raises
         ------
@@ -335,7 +320,6 @@ class Network:
         """
         running = opening.Running(
             program, workers, timeout, load, library, Asked(raw=raw), progress, like, fresh)
-        see_that_network(like)
         nodes, x, y = from_arcs.nodes_in_order(nodes, x, y)
         given = frames.columns_of_frame(
             frame, (source, target, weight), geometry, both_ways,
@@ -369,18 +353,15 @@ class Network:
             As `from_arrays` takes it. "auto", the default, is that of `unit`, and 1000 if there is
             no unit: from seconds to milliseconds, or from metres to millimetres.
         unit : str, optional
-            What the weights are measured in, such as `seconds` or `metres`: as `from_arrays` takes
-            it.
+            The unit of the weights, such as `seconds` or `metres`: as `from_arrays` takes it.
         x, y : str, optional
             The attributes of nodes with longitude and latitude in degrees. Where no node has them,
             or for None, the network has no places.
         geometry : str, optional
             The attribute of edges with their lines, where edges have some, as those of a simplified
             graph of osmnx do.
-        raw, folder : bool, str or path
-            As `from_arrays` takes them.
-        like, fresh, progress, program, workers, timeout, load, library : as `from_arrays` has them
-            What builds the network, and how it answers.
+        raw, folder, like, fresh, progress, program, workers, timeout, load, library : optional
+            As `from_arrays` takes them: units, files, what builds the network, how it answers.
 
         Returns
         -------
@@ -401,7 +382,6 @@ class Network:
         """
         running = opening.Running(
             program, workers, timeout, load, library, Asked(raw=raw), progress, like, fresh)
-        see_that_network(like)
         arcs = frames.arcs_of_networkx(graph, weight, scale, unit, (x, y), geometry)
         return cls._made(arcs, folder, running)
 
@@ -433,18 +413,10 @@ class Network:
             are called 1, 2, .. by longitude and latitude.
         weight : str, optional
             The column of weights. Without it a weight is the metres along the line.
-        scale, unit : float and str, optional
-            As `from_arrays` takes them.
-        both_ways : bool, str, or array of bool, shape (m,)
-            As `from_frame` takes it.
-        raw, folder : bool, str or path
-            As `from_arrays` takes them.
-        like, fresh, progress, program, workers, timeout, load, library : as `from_arrays` has them
-            What builds the network, and how it answers.
-
-        Returns
-        -------
-        Network
+        scale, unit, both_ways : optional
+            As `from_frame` takes them.
+        raw, folder, like, fresh, progress, program, workers, timeout, load, library : optional
+            As `from_arrays` takes them: units, files, what builds the network, how it answers.
 
         Raises
         ------
@@ -460,7 +432,6 @@ class Network:
         """
         running = opening.Running(
             program, workers, timeout, load, library, Asked(raw=raw), progress, like, fresh)
-        see_that_network(like)
         given = geoframes.columns_of_geodataframe(
             edges, nodes, (source, target, weight), both_ways, {"scale": scale, "unit": unit})
         return cls._made(from_arcs.arcs_like(given, like), folder, running)
@@ -485,14 +456,10 @@ class Network:
             The weights. A 0 that is stored is an arc of weight 0.
         nodes : array of labels, shape (n,), optional
             The labels of rows and columns. Without it these are those of `like`, or 0, 1, ..
-        x, y, scale, unit, both_ways, raw, folder : as `from_arrays` has them
-            Places, the unit, and where files are.
-        like, fresh, progress, program, workers, timeout, load, library : as `from_arrays` has them
-            What builds the network, and how it answers.
-
-        Returns
-        -------
-        Network
+        x, y, scale, unit, both_ways : optional
+            As `from_arrays` takes them: places, the unit, and whether arcs lead back.
+        raw, folder, like, fresh, progress, program, workers, timeout, load, library : optional
+            As `from_arrays` takes them: units, files, what builds the network, how it answers.
 
         Raises
         ------
@@ -507,7 +474,6 @@ class Network:
         """
         running = opening.Running(
             program, workers, timeout, load, library, Asked(raw=raw), progress, like, fresh)
-        see_that_network(like)
         arcs = from_arcs.arcs_of_sparse(matrix, (nodes, x, y), scale, unit, both_ways, like)
         return cls._made(arcs, folder, running)
 
@@ -580,7 +546,7 @@ class Network:
         >>> at_eight = network.changed(weights=frame["minutes at 8:00"])  # doctest: +SKIP
         >>> with_tunnel = network.changed(added=[("farm", "school", 2.5)])  # doctest: +SKIP
         """
-        see_that_network(self)
+        self._engine.see_that_open()
         with from_arcs.known_to_be_closed(self):
             arcs = scenarios.arcs_of(self._layers, self._measure, weights, closed, added)
         opened, setting = self._opened, self._opened.setting
@@ -592,8 +558,8 @@ class Network:
         return self._made(arcs, folder, running)
 
     def customizable(self, order: str | os.PathLike | Iterable | None = None) -> Self:
-        """Prepares the network for new weights: from here on `changed` customizes them, in the
-        network's unit, which takes a small part of the time of building, unless arcs are added.
+        """Prepares this network for new weights, and returns it: from here on `changed` customizes
+        them, in the network's unit, in a small part of the time of building, unless arcs are added.
 
         This finds an order of the nodes and the legs that there may be in it, whatever the weights
         are. It takes some microseconds for each node. The order is kept in the folder of the
@@ -605,11 +571,6 @@ class Network:
         order : path, or list of nodes, optional
             The order: a file that `chtab save` wrote, or its lines `p` and `o` alone; or each node
             once, from the least important on. By default a nested dissection order is found.
-
-        Returns
-        -------
-        Network
-            This network.
 
         Raises
         ------
@@ -627,7 +588,7 @@ class Network:
         ...     with network.changed(weights=weights) as now:
         ...         times = now.table(depots, customers)
         """
-        see_that_network(self)
+        self._engine.see_that_open()
         with from_arcs.known_to_be_closed(self):
             customizing = self._customized_in(scenarios.order_of(self._layers, order))
             customizing.opened()
@@ -788,12 +749,8 @@ class Network:
 
         Parameters
         ----------
-        sources, targets : array of labels, shape (k,) and (l,)
-            Nodes.
-        within : number or duration, optional
-            A limit.
-        progress : bool or callable, optional
-            As `distances` takes it.
+        sources, targets, within, progress : as `table` has them
+            Nodes, and a limit.
 
         Returns
         -------
@@ -830,10 +787,8 @@ class Network:
 
         Parameters
         ----------
-        pairs, targets : array of labels, shape (n, 2), or (n,) each
-            As `distances` takes them.
-        progress : bool or callable, optional
-            As `distances` takes it.
+        pairs, targets, progress : as `distances` has them
+            Nodes, in an array of the shape (n, 2), or two of (n,).
 
         Returns
         -------
@@ -905,8 +860,8 @@ class Network:
         origins, destinations : array of labels, shape (n,) each
             The nodes of the pairs.
         demand : array of int or float, shape (n,), or number
-            How much goes from each origin to its destination, at least 0; one number is for each
-            pair.
+            How much goes from each origin to its destination, at least 0, by their index in pandas;
+            one number is for each pair.
         scale : float, optional
             How many whole units make one of the demand: 1000 rounds demands to thousandths. Demands
             with fractions need it. In these units a demand is at most 2^53, and all demands
@@ -936,8 +891,9 @@ class Network:
         --------
         >>> flows = network.flows(trips["from"], trips["to"], trips["persons"])  # doctest: +SKIP
         """
-        pairs = of_pairs.pairs_in(self._layers, origins, destinations)
-        trips = of_flows.PairTrips(pairs, of_flows.demands_of(demand, (len(pairs),), scale))
+        given = row_index.matched(DEMANDED, (origins, destinations, demand))
+        pairs = of_pairs.pairs_in(self._layers, *given[:2])
+        trips = of_flows.PairTrips(pairs, of_flows.demands_of(given[2], (len(pairs),), scale))
         return of_flows.flows_of_rows(self._engine, self._layers, trips, progress)
 
     @timed
@@ -1022,10 +978,8 @@ class Network:
             The relative gap at which it ends.
         steps : int
             The most steps.
-        scale : float, optional
-            As `flows` takes it.
-        progress : bool or callable, optional
-            As `distances` takes it, for steps.
+        scale, progress : optional
+            As `flows` takes them; progress is that of steps.
 
         Returns
         -------
@@ -1051,7 +1005,8 @@ class Network:
         curve: traffic.Bpr | traffic.Given
         curve = (
             rows.bpr(capacity, alpha, beta) if times is None else traffic.Given(times, rows.count))
-        trips = of_flows.trips_in(self._layers, origins, destinations, demand, scale)
+        given = row_index.matched(DEMANDED, (origins, destinations, demand))
+        trips = of_flows.trips_in(self._layers, given[0], given[1], given[2], scale)
         search = traffic.Search(method, curve, fixed, traffic.Trips(self, rows, trips))
         return traffic.equilibrium_of(rows, search, gap, steps, progress)
 
@@ -1100,10 +1055,8 @@ class Network:
         TypeError, ValueError
             A limit or a count is no number; a label is that of no node; a number or `direction` is
             out of its range.
-        ChtabError
-            The network is closed.
-        ProgramFault, TimedOut
-            The library has no memory, or the call took too long.
+        ChtabError, ProgramFault, TimedOut
+            The network is closed, the library has no memory, or the call took too long.
 
         Examples
         --------
@@ -1128,16 +1081,12 @@ class Network:
 
         Parameters
         ----------
-        sources : array of labels, shape (n,), Spots, or None
-            Nodes or spots, as `near` takes them.
-        targets : array of labels, shape (l,), or Spots
+        sources, targets : array of labels, shape (n,) and (l,), Spots, or None
             Nodes or spots, as `near` takes them.
         count : int
             How many targets of each source, from 1 on.
-        within : number or duration, optional
-            A limit in the network's `unit`.
-        direction : {"to", "from"}
-            As `near` takes it.
+        within, direction : as `near` has them
+            A limit in the network's `unit`, and the direction of weights.
         missing : int or float, optional
             The weight where there is no further target, as `distances` takes it.
         workers, progress : int or distributed.Client, bool or callable
@@ -1187,7 +1136,7 @@ class Network:
             The value of each target, in one column or several. A single number is the value of each
             target, and True is 1. Without `targets`, a Series, a frame or a dict has the labels of
             targets as its index, and an array has a value for each of `crossings`. A Series of
-            values and one of targets go by their index.
+            values goes by its index with one of targets, or with a list of the same labels.
         within : number, duration, or list of these, length m
             A limit in the network's `unit`, or several. A target at exactly the limit counts.
         sources : array of labels, shape (n,), or Spots, optional
@@ -1201,11 +1150,8 @@ class Network:
             The share of a value that counts at the weight w within the limit R: 1 - w / R, e^(-w /
             R), or what a callable gives for an array of weights. It applies to sums, means, counts
             and standard deviations.
-        direction : {"to", "from"}
-            Whether weights are those from the source to the target, or from the target to the
-            source.
-        workers, progress : int or distributed.Client, bool or callable
-            As `near` takes them.
+        direction, workers, progress : as `near` has them
+            The direction of weights, and what works on the answer.
 
         Returns
         -------
@@ -1218,11 +1164,9 @@ class Network:
         ------
         DataFault
             A value is missing or not finite, or there are more or fewer values than targets.
-        TypeError, ValueError
+        TypeError, ValueError, ChtabError, ProgramFault, TimedOut
             As `near` raises them; or `aggregate` or `decay` is unknown; or a limit is 0 where a
             decay divides by it.
-        ChtabError, ProgramFault, TimedOut
-            As `near` raises them.
 
         Examples
         --------
@@ -1259,10 +1203,8 @@ class Network:
         ------
         TooFar
             A place is farther away than `max_metres`.
-        ValueError
-            A number is no degree, such as NaN.
-        ChtabError
-            The network has no places of nodes.
+        ValueError, ChtabError
+            A number is no degree, such as NaN; or the network has no places of nodes.
         """
         most = metres_in(max_metres)
         longitudes, latitudes = places_in(longitudes, latitudes)
@@ -1278,10 +1220,8 @@ class Network:
 
         Parameters
         ----------
-        longitudes, latitudes : array of float, shape (n,)
-            Places in degrees, from -180 to 180 and from -90 to 90.
-        max_metres : float, optional
-            The largest distance of a place from the nearest road; None for any distance.
+        longitudes, latitudes, max_metres : as `nearest_nodes` has them
+            Places in degrees, and the largest distance of one from the nearest road.
 
         Returns
         -------
@@ -1295,10 +1235,8 @@ class Network:
         TooFar
             Places are farther from each road than `max_metres`; `places` of the error has all of
             them.
-        ValueError
-            A number is no degree, such as NaN.
-        ChtabError
-            The network has no places of nodes, or no roads.
+        ValueError, ChtabError
+            A number is no degree, such as NaN; or the network has no places of nodes, or no roads.
         """
         return self.roads.find(longitudes, latitudes, max_metres)
 
@@ -1335,10 +1273,8 @@ class Network:
         ----------
         starts, ends : chtab.Spots
             k and l spots.
-        within : number or duration, optional
-            A limit in the network's `unit`.
-        missing : int or float, optional
-            The value where no path leads, or none of at most `within`, as `distances` takes it.
+        within, missing : as `table` has them
+            A limit, and the value where no path leads.
 
         Returns
         -------
@@ -1385,11 +1321,8 @@ class Network:
         ----------
         spot : chtab.Spots
             One spot, as `snap` gives it.
-        within : number or duration, optional
-            A limit in the network's `unit`.
-        missing : int or float, optional
-            The value of a node that is not reached, or not within the limit, as `distances` takes
-            it.
+        within, missing : as `table` has them
+            A limit, and the value of a node that is not reached within it.
 
         Returns
         -------
@@ -1639,14 +1572,6 @@ class Network:
 
     def __exit__(self, *_: object) -> None:
         self.close()
-
-
-def see_that_network(like: Any) -> None:
-    """Refuses what is no network, in whose order another one is built, and a closed one."""
-    if like is not None and not isinstance(like, Network):
-        raise TypeError(f"like is a Network, not {like!r}")
-    if like is not None and like._engine.is_closed:
-        raise ChtabError("the network is closed")
 
 
 # The networks that this process unpickled, one for each opening, so that the tasks of a pool don't

@@ -41,9 +41,6 @@ def frame_of(**more):
     return pandas.DataFrame({"a": ENDS[0], "b": ENDS[1], "t": TIMES, **more})
 
 
-# Spots belong to a network and its weights.
-
-
 def test_spots_are_found_anew_in_a_scenario():
     """Trips, tables, routes, reach and polygons of a scenario are those of spots that it finds by itself: with other weights, a closed road, and a new one."""
     import numpy
@@ -104,9 +101,6 @@ def test_spots_of_another_map_are_refused():
             assert "as `snap` gives them" in str(raises(TypeError, call, [1], [2]))
 
 
-# Columns that go together.
-
-
 def test_lengths_are_compared():
     """One start and several ends are no trips: nothing is answered by what fits only one of them."""
     with of_country() as network:
@@ -150,7 +144,49 @@ def test_columns_of_pandas_go_by_their_index():
         assert network.table(["x"], ["y", "z"]).tolist() == [[1, 3]]
 
 
-# A map with restricted turns.
+def test_values_called_as_nodes_go_with_these():
+    """By the labels of a list of nodes. Other labels are refused, and numbers that may be those of rows."""
+    import numpy
+    import pandas
+
+    jobs, order = pandas.Series([100, 1, 7], ["z", "x", "y"]), ["x", "y", "z"]
+    with of_frame(frame_of()) as network:
+        for targets in order, numpy.array(order), pandas.Index(order):
+            assert network.accessibility(jobs, 0, targets=targets).tolist() == [1, 7, 100]
+            assert network.accessibility(jobs.to_frame(), 0, targets=targets)[0].tolist() == [1, 7, 100]
+        for other in jobs.set_axis(["z", "x", "w"]), jobs.set_axis(["z", "x", "x"]):
+            raises(chtab.DataFault, lambda: network.accessibility(other, 0, targets=order), told="`to_numpy()`")
+        assert network.accessibility(jobs.set_axis(["r", "s", "t"]), 0, targets=order).tolist() == jobs.tolist()
+    with chtab.Network.from_arrays([0, 1], [1, 2], [1, 1], program=PROGRAM) as network:
+        assert network.accessibility(pandas.Series([5, 6]), 0, targets=[2, 1]).tolist() == [0, 6, 5]
+        assert network.accessibility(pandas.Series([5, 6], [2, 1]), 0, targets=[1, 2]).tolist() == [0, 6, 5]
+        raises(chtab.DataFault, lambda: network.accessibility(jobs.set_axis([0, 1, 2]), 0, targets=[2, 0, 1]), told="`to_numpy()`")
+
+
+def test_demands_go_with_their_trips():
+    import pandas
+
+    trips = pandas.DataFrame({"a": ["x", "y"], "b": ["z", "z"], "persons": [4, 1]})
+    with of_frame(frame_of()) as network:
+        for call in network.flows, lambda *given: network.assign(*given, capacity=10, scale=1).flows:
+            assert call(trips.a, trips.b, trips.persons.sort_values()).tolist() == [4, 5]
+            assert call(trips.a, trips.b.iloc[::-1], trips.persons.to_numpy()).tolist() == [4, 5]
+            raises(chtab.DataFault, call, trips.a, trips.b, trips.persons.set_axis([5, 6]), told="`to_numpy()`")
+
+
+def test_durations_keep_their_units():
+    """Arrays of nanoseconds are no numbers, numbers among durations no nanoseconds, and none is too long for these."""
+    import datetime
+    import numpy
+
+    short, minutes = datetime.timedelta(minutes=1), numpy.array([60, 180], "m8[s]").astype("m8[ns]")
+    with of_frame(frame_of()) as network:
+        assert network.accessibility(1, minutes, sources=["x"]).tolist() == [[2, 3]] == network.accessibility(1, [*minutes], sources=["x"]).tolist()
+    for weights, told in (
+        ([short, 5], "weights[1]: 5 is no duration"), ([short, datetime.timedelta(days=450_000)], "weights[1]: numpy.timedelta64("),
+        (numpy.array([1, 450_000], "m8[D]"), "weights[1]: numpy.timedelta64(450000,'D') is too long"), (numpy.array([1, 2], "m8"), "weights[0]: numpy.timedelta64(1) has no unit"),
+    ):
+        raises(chtab.DataFault, lambda: chtab.Network.from_arrays(*ENDS, weights, program=PROGRAM), told=told)
 
 
 def test_a_crossing_is_one_node_in_all_calls():
@@ -201,9 +237,6 @@ def write_cross():
     pathlib.Path("cross.osm").write_text(osm(nodes, ways, relations))
     subprocess.run([PYTHON, ROOT / "tools" / "osm_to_gr.py", "--turns", "--part", "all", "cross.osm", "cross"], check=True, capture_output=True)
     assert converting
-
-
-# What arguments are.
 
 
 def test_rows_that_lead_both_ways():
@@ -285,6 +318,8 @@ def test_places_are_degrees():
             raises(chtab.DataFault, call, masked, [47.14, -9.0], told="longitudes[1]: the value is masked")
             for wrong in ["9.52"], [True], [None], "9.52", [181], [numpy.nan]:
                 raises(chtab.DataFault, call, wrong, [47.14], told="longitudes[0]: ")
+            for wrong in numpy.nan, 91:
+                raises(chtab.DataFault, call, [9.5, 9.5], [47.14, wrong], told=f"latitudes[1]: {wrong} is not from -90 to 90 degrees")
             raises(chtab.DataFault, call, [9.52], [47.14, 47.2], told="longitudes has 1 rows and latitudes has 2")
             for wrong, kind in ("500", TypeError), (True, TypeError), (float("nan"), ValueError), (-1, ValueError):
                 raises(kind, call, *VADUZ, wrong, told="max_metres is")
@@ -348,9 +383,6 @@ def test_the_scale_of_a_graph_of_networkx_is_taken():
         assert network.scale == 10 and network.distances([(1, 2)]).tolist() == [0.3]
     with chtab.Network.from_networkx(graph, "w", unit="minutes", program=PROGRAM) as network:
         assert network.scale == 60_000 and network.distances([(1, 2)]).tolist() == [0.26]
-
-
-# Messages.
 
 
 def test_messages_name_the_argument_the_row_and_the_value():
@@ -449,9 +481,6 @@ def test_workers_build_and_the_library_answers():
         raises((ValueError, TypeError), lambda: of_country(workers=workers), told="workers is")
 
 
-# Nearness between spots.
-
-
 def test_spots_are_near_as_trips_say():
     """Rows, nearest targets and aggregates between spots, and between spots and nodes, are those of tables of trips."""
     import numpy
@@ -486,9 +515,6 @@ def test_spots_are_near_as_trips_say():
         with network.changed(closed=homes[:1]) as closed:
             own = closed.snap(x, y)
             assert numpy.array_equal(closed.nearest_targets(homes, shops).weights, closed.nearest_targets(own[:40], own[40:]).weights)
-
-
-# The network in frames.
 
 
 @needs("python3-geopandas")
@@ -535,13 +561,22 @@ def test_routes_have_metres():
 
 
 def test_a_road_is_closed_in_whichever_directions_it_has():
-    """By a set of its nodes: both directions, or the one that there is."""
+    """By a set of its nodes: both directions, or the one that there is. A set, a dict or a truth is nothing else."""
+    import numpy
+
     for both_ways, left in (True, [[0, -1, -1], [-1, 0, 2], [-1, 2, 0]]), (False, [[0, -1, -1], [-1, 0, 2], [-1, -1, 0]]):
         with of_frame(frame_of(), both_ways=both_ways) as network, network.changed(closed=[{"y", "x"}]) as closed:
             assert closed.table(["x", "y", "z"], ["x", "y", "z"], missing=-1).tolist() == left
             fault = raises(chtab.DataFault, network.changed, None, [0, {"x", "z"}], told="there is no arc between the nodes of")
             assert fault.row == 1
             raises(chtab.DataFault, network.changed, None, [{"x"}], told="names no arc")
+    with chtab.Network.from_arrays([0, 1], [1, 0], [1, 1], program=PROGRAM) as network:
+        for closed, told in ({0, 1}, "[{0, 1}] is one arc"), ({0: False, 1: True}, "no dict of these"):
+            raises(chtab.DataFault, network.changed, None, closed, told=told)
+        raises(chtab.DataFault, network.distances, [0, True], [1, 1], told="True")
+    with chtab.Network.open(FIRST, program=PROGRAM) as network:
+        for ends in ([1, True], [3, 3]), ([(1, 3), (True, 3)],), ([(1, 3), (numpy.True_, 3)],):
+            assert raises(chtab.DataFault, network.distances, *ends, told="is no node").row == 1
 
 
 def test_answers_print_shortly():

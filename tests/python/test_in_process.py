@@ -23,17 +23,14 @@ from chtab._engine import in_process, library
 pytestmark = pytest.mark.usefixtures("program")
 
 
-# What Python says of C.
-
-
 def test_numbers_are_those_of_the_header():
     """The version, statuses, kinds of faults and sizes."""
     text = HEADER.read_text()
     assert f"#define CHTAB_VERSION {library.VERSION}\n" in text
     assert all(getattr(library, name) == number for name, number in statuses().items()) and len(statuses()) == 16
     assert len(re.findall(r"CHTAB_FAULT_\w+ = \d+", text)) == len(library.KINDS)
-    kinds = {"chtab": library.Block, "chtab_topology": library.TopologyBlock, "chtab_fault": library.Fault, "chtab_found": library.Found}
-    assert [ctypes.sizeof(kind) for kind in kinds.values()] == [16, 16, 24, 16]
+    kinds = {"chtab": library.Block, "chtab_topology": library.TopologyBlock, "chtab_fault": library.Fault}
+    assert [ctypes.sizeof(kind) for kind in kinds.values()] == [16, 16, 24]
     for name, kind in kinds.items():
         body = re.search(rf"typedef struct {name} \{{(.*?)\}}", text, re.DOTALL).group(1)
         assert re.findall(r"(\w+);", re.sub(r"/\*.*?\*/", "", body)) == [field for field, _ in kind._fields_], name
@@ -45,18 +42,15 @@ def test_calls_are_those_of_the_header():
     types = {
         "chtab *": {library.HANDLE}, "chtab_topology *": {library.TOPOLOGY}, "const uint8_t *": {ctypes.c_char_p}, "size_t ": {ctypes.c_size_t}, "uint64_t ": {ctypes.c_uint64},
         "uint32_t ": {ctypes.c_uint32}, "const uint32_t *": {column}, "const uint64_t *": {column}, "uint64_t *": {column, rows}, "uint32_t *": {column, one}, "uint8_t *": {column},
-        "chtab_fault *": {ctypes.POINTER(library.Fault)}, "chtab_found *": {ctypes.POINTER(library.Found)},
+        "chtab_fault *": {ctypes.POINTER(library.Fault)},
     }
-    assert {*library.CALLS, "chtab_version"} == declared()
+    assert {*library.CALLS, "chtab_version", "chtab_route", "chtab_topology_open"} == declared()
     for name, given in library.CALLS.items():
         words = re.search(rf"uint32_t {name}\((.*?)\);", HEADER.read_text(), re.DOTALL).group(1)
         told = [re.fullmatch(r"(.*?)\w+", " ".join(word.split())).group(1) for word in words.split(",")]
         assert len(told) == len(given) and all(kind in types[word] for word, kind in zip(told, given)), (name, told)
-    assert library.CALLS["chtab_nodes"][1] is one and column is library.CALLS["chtab_route"][4]
+    assert library.CALLS["chtab_nodes"][1] is one
     assert library.CALLS["chtab_save"][1] is rows and library.CALLS["chtab_near_rows"][3] is rows and library.CALLS["chtab_near_rows"][4::2] == (column,) * 3
-
-
-# What is refused.
 
 
 def test_what_c_would_misread_is_refused():
@@ -258,9 +252,6 @@ def test_routes_of_another_graph_are_found_out():
             assert network.routes([(1, 3), (2, 3)])[:] == [(1, 3, 9, [1, 2, 3], [4, 5]), (2, 3, 5, [2, 3], [5])]
             paths = network._engine.paths(numpy.array([[1, 3], [3, 1], [2, 2], [2, 3]]))
             assert [column.tolist() for column in paths] == [[9, -1, 0, 5], [2, 0, 0, 1], [0, 1, 1]] and paths.arcs.dtype == numpy.int64
-
-
-# Which library is taken.
 
 
 def answers(network):

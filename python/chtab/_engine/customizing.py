@@ -13,7 +13,6 @@ from chtab._files.forms import whole
 
 if TYPE_CHECKING:
     import ctypes
-
     from chtab.typing import Integers
 
 

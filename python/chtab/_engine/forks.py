@@ -11,25 +11,18 @@ import os
 import threading
 import weakref
 from collections.abc import Callable
-from typing import Any, Generic, Protocol, TypeVar
+from typing import Any, Generic, TypeVar
 
 Value = TypeVar("Value")
-
-
-class Followed(Protocol):
-    """An object that has to know when its process was forked."""
-
-    def leave_parent(self) -> None:
-        """Gives up what belongs to the parent."""
 
 
 # Held while a run is started. No process is forked meanwhile, because it would inherit pipes that
 # nothing in it knows of.
 STEADY = threading.RLock()
-FOLLOWED: weakref.WeakSet[Followed] = weakref.WeakSet()
+FOLLOWED: weakref.WeakSet[Any] = weakref.WeakSet()
 
 
-def follow(thing: Followed) -> None:
+def follow(thing: Any) -> None:
     """Calls `thing.leave_parent()` in each forked process, as long as the object exists."""
     FOLLOWED.add(thing)
 

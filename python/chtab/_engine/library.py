@@ -74,12 +74,6 @@ class Fault(ctypes.Structure):
     _fields_ = [("line", ctypes.c_uint64), ("place", ctypes.c_uint64), ("kind", ctypes.c_uint32)]
 
 
-class Found(ctypes.Structure):
-    """`struct chtab_found`."""
-
-    _fields_ = [("weight", ctypes.c_uint64), ("nodes", ctypes.c_uint64)]
-
-
 ARRAY = ctypes.c_void_p, ctypes.c_size_t
 HANDLE, TOPOLOGY = ctypes.POINTER(Block), ctypes.POINTER(TopologyBlock)
 NUMBER_32, NUMBER_64, TEXT = ctypes.c_uint32, ctypes.c_uint64, (ctypes.c_char_p, ctypes.c_size_t)
@@ -90,7 +84,6 @@ CALLS = {
     "chtab_open_arrays": (HANDLE, NUMBER_32, *ARRAY, *ARRAY, *ARRAY, *TEXT, FAULT),
     "chtab_open_quick": (HANDLE, *TEXT, FAULT),
     "chtab_open_like": (HANDLE, *TEXT, HANDLE, NUMBER_32, FAULT),
-    "chtab_topology_open": (TOPOLOGY, *TEXT, *TEXT, FAULT),
     "chtab_topology_open_arrays": (TOPOLOGY, NUMBER_32, *ARRAY, *ARRAY, *TEXT, FAULT),
     "chtab_topology_share": (TOPOLOGY, TOPOLOGY),
     "chtab_topology_order": (TOPOLOGY, *ARRAY),
@@ -102,7 +95,6 @@ CALLS = {
     "chtab_save": (HANDLE, COUNT, *ARRAY),
     "chtab_distances": (HANDLE, *ARRAY, *ARRAY, *ARRAY),
     "chtab_table": (HANDLE, *ARRAY, *ARRAY, NUMBER_64, *ARRAY),
-    "chtab_route": (HANDLE, NUMBER_32, NUMBER_32, ctypes.POINTER(Found), *ARRAY),
     "chtab_routes": (HANDLE, *ARRAY, *ARRAY, COUNT, *ARRAY, *ARRAY, *ARRAY, *ARRAY),
     "chtab_route_sums": (HANDLE, *ARRAY, *ARRAY, *ARRAY, COUNT, *ARRAY, *ARRAY),
     "chtab_table_sums": (HANDLE, *ARRAY, *ARRAY, *ARRAY, COUNT, *ARRAY, *ARRAY),

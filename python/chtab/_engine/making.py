@@ -20,7 +20,6 @@ from chtab._files.node_labels import Labels, fixed
 
 if TYPE_CHECKING:
     import ctypes
-
     from chtab._engine.customizing import Customizing
     from chtab._engine.in_process import InProcess
     from chtab._engine.library import Handle

@@ -69,6 +69,10 @@ class Running:
     def __post_init__(self) -> None:
         see_that_count("fresh", self.fresh, 0, 100)
         see_that_count("workers", self.workers, 1, MOST_WORKERS)
+        if self.like is not None and not hasattr(self.like, "_engine"):
+            raise TypeError(f"like is a Network, not {self.like!r}")
+        if self.like is not None:
+            self.like._engine.see_that_open()
         if self.timeout is None:
             return
         if isinstance(self.timeout, bool) or not isinstance(self.timeout, numbers.Real):

@@ -9,8 +9,6 @@ from typing import Any, TypeAlias, TypeVar
 
 # What callers give as `progress`.
 Asked: TypeAlias = bool | Callable[[int, int], Any] | None
-# A function that gets how many things are done, and of how many.
-Steps: TypeAlias = Callable[[int, int], Any]
 # Seconds from one line to the next, by default and where a caller asks for them.
 SECONDS, ASKED_SECONDS = 10.0, 1.0
 # Of more things than so many the bar counts thousands and millions.
@@ -35,7 +33,7 @@ class Progress:
 
     def __init__(
         self, name: str, total: int | None, things: str, seconds: float | None = None,
-        is_shown: bool = True, call: Steps | None = None,
+        is_shown: bool = True, call: Callable[[int, int], Any] | None = None,
     ) -> None:
         self.name, self.total, self.things = name, total, things
         self.is_shown, self.call = is_shown, call

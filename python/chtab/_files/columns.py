@@ -232,14 +232,17 @@ def durations_in(name: str, column: Column) -> Any:
     is_column = array.dtype == object and array.ndim == 1 and array.size
     if is_column and isinstance(array[0], durations):
         for row, value in enumerate(array.tolist()):
-            if not isinstance(value, (*durations, int)) or isinstance(value, bool):
+            if not isinstance(value, durations):
                 raise refused(name, row, f"{quoted(value)} is no duration, as those before it")
-        array = numpy.array([numpy.timedelta64(value) for value in array], "timedelta64[ns]")
+        array = numpy.array([numpy.timedelta64(value) for value in array])
     if array.dtype.kind != "m":
         return None
     see_that_flat(name, array)
     see_that_there(name, numpy.isnat(array), "is missing")
-    return array.astype("timedelta64[ns]").astype(numpy.int64) / numpy.longdouble(1e6)
+    found, has_unit = array.astype("timedelta64[ns]"), array.dtype != numpy.dtype("timedelta64")
+    refuse(name, (found.astype(array.dtype) != array) | (not has_unit), lambda row: (
+        f"{array[row]!r} {'is too long' if has_unit else 'has no unit'}"))
+    return found.astype(numpy.int64) / numpy.longdouble(1e6)
 
 
 def numbers_in(name: str, column: Column, with_booleans: bool = False) -> NDArray[Any]:

@@ -108,24 +108,7 @@ def write_columns(file: IO[str], form: str, numbers: Sequence[Any]) -> None:
 
 @contextlib.contextmanager
 def whole(path: str) -> Iterator[str]:
-    """Lends a path beside this one. The file there gets the final name if it was written without an
-    error, and is removed otherwise.
-
-    Parameters
-    ----------
-    path : str
-        The final name of the file.
-
-    Yields
-    ------
-    str
-        The path to write to, as long as the `with` lasts.
-
-    Raises
-    ------
-    OSError
-        The file can't get its name.
-    """
+    """Lends a path beside this one, whose file gets this name if nothing fails, or is removed."""
     part = f"{path}.part-{secrets.token_hex(8)}"
     try:
         yield part

@@ -121,23 +121,7 @@ def read_graph(source: Source) -> Graph:
 
 
 def read_unit(path: Path) -> str:
-    """Reads the unit of a graph's weights from the comments before its first arc.
-
-    Parameters
-    ----------
-    path : str or path
-        The graph (`.gr`).
-
-    Returns
-    -------
-    str
-        `milliseconds` or `metres`, or empty if no comment names a unit.
-
-    Raises
-    ------
-    OSError
-        The file can't be read.
-    """
+    """The unit of weights that a comment before the first arc names; empty if none does."""
     with open(path, "rb") as file:
         return unit_of(list(itertools.takewhile(lambda line: line[:1] != b"a", file)))
 
@@ -150,44 +134,12 @@ def unit_of(lines: Iterable[bytes]) -> str:
 
 
 def count_arcs(path: Path) -> int:
-    """Reads how many arcs a graph's problem line declares, without the rest of the file.
-
-    Parameters
-    ----------
-    path : str or path
-        The graph (`.gr`).
-
-    Returns
-    -------
-    int
-        The number of arcs.
-
-    Raises
-    ------
-    FileFault
-        The file isn't of this kind; the message names it.
-    """
+    """How many arcs a graph's problem line declares, without the rest of the file."""
     return counts_in(path)[1]
 
 
 def count_nodes(path: Path) -> int:
-    """Reads how many nodes a graph's problem line declares, without the rest of the file.
-
-    Parameters
-    ----------
-    path : str or path
-        The graph (`.gr`).
-
-    Returns
-    -------
-    int
-        The number of nodes.
-
-    Raises
-    ------
-    FileFault
-        The file isn't of this kind; the message names it, and the line if there is one.
-    """
+    """How many nodes it declares."""
     return counts_in(path)[0]
 
 
@@ -240,42 +192,14 @@ def write_graph(
 
 
 def scale_comment(scale: float) -> str:
-    """Returns the comment of a graph whose weights were multiplied by a scale and rounded.
-
-    Parameters
-    ----------
-    scale : number
-        The scale.
-
-    Returns
-    -------
-    str
-        The comment, without its `c`.
-    """
+    """The comment, without its `c`, of a graph whose weights were multiplied and rounded."""
     return f"Weights were multiplied by {scale} and rounded to whole numbers."
 
 
 def write_graph_columns(
     target: Target, nodes: int, columns_of_arcs: Sequence[Any], comments: Iterable[str] = ()
 ) -> None:
-    """Writes the same graph as `write_graph`, from columns. Nothing is checked.
-
-    Parameters
-    ----------
-    target : path or open file
-        The file to write.
-    nodes : int
-        How many nodes there are.
-    columns_of_arcs : three arrays of int64, shape (m,)
-        Tails, heads and weights.
-    comments : list of str
-        The first lines.
-
-    Raises
-    ------
-    OSError
-        The file can't be written.
-    """
+    """Writes the same from arrays of tails, heads and weights. Nothing is checked."""
     with writing(target) as file:
         write_comments(file, comments)
         file.write(f"p sp {nodes} {len(columns_of_arcs[0])}\n")
@@ -312,24 +236,7 @@ def read_coordinates(source: Source) -> Coordinates:
 
 
 def read_turns(path: Path) -> Coordinates:
-    """Reads what a file of places (`.co`) says about nodes where turns are restricted, without its
-    places.
-
-    Parameters
-    ----------
-    path : str or path
-        The file (`.co`).
-
-    Returns
-    -------
-    Coordinates
-        No places, and the comments before the first of them, with `ends` and `copies`.
-
-    Raises
-    ------
-    OSError
-        The file can't be read.
-    """
+    """What a file of places (`.co`) says about restricted turns, without its places."""
     with open(path, "rb") as file:
         return Coordinates(
             array.array("d"), array.array("d"),
@@ -405,22 +312,7 @@ def write_coordinates(
 def write_coordinate_columns(
     target: Target, columns_of_places: Sequence[Any], comments: Iterable[str] = ()
 ) -> None:
-    """Writes the nodes' places (`.co`) from columns.
-
-    Parameters
-    ----------
-    target : path or open file
-        The file to write.
-    columns_of_places : two arrays of int64, shape (n,)
-        Longitudes and latitudes of nodes 1, 2, .. in millionths of a degree.
-    comments : list of str
-        The first lines.
-
-    Raises
-    ------
-    OSError
-        The file can't be written.
-    """
+    """Writes the nodes' places from arrays of millionths of a degree."""
     count = len(columns_of_places[0])
     with writing(target) as file:
         write_comments(file, comments)

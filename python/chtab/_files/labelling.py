@@ -36,43 +36,14 @@ class Labelling(NamedTuple):
 
 
 def write_labels(target: Target, labelling: Labelling) -> None:
-    """Writes the labels of a network.
-
-    Parameters
-    ----------
-    target : path or open file
-        The file to write.
-    labelling : Labelling
-        The labels.
-
-    Raises
-    ------
-    OSError
-        The file can't be written.
-    """
+    """Writes the labels of a network."""
     with writing(target) as file:
         # In one piece, because only then the encoder in C makes it.
         file.write(json.dumps(labelling._asdict()))
 
 
 def read_labels(source: Source) -> Labelling:
-    """Reads the labels of a network.
-
-    Parameters
-    ----------
-    source : path, open file or lines
-        The file to read.
-
-    Returns
-    -------
-    Labelling
-        The labels, and how weights were rounded.
-
-    Raises
-    ------
-    FileFault
-        The file isn't what `write_labels` writes, or two of its labels are equal.
-    """
+    """Reads what `write_labels` writes; anything else is a `FileFault`, and so are equal labels."""
     with reading(source) as file:
         try:
             found = Labelling(**json.load(file))

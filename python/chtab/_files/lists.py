@@ -5,10 +5,10 @@ import array
 import itertools
 import re
 from collections.abc import Iterable, Iterator, Sequence
-from typing import TYPE_CHECKING, Any, NamedTuple
+from typing import TYPE_CHECKING, NamedTuple
 
 from chtab.errors import FileFault
-from chtab._files.forms import columns, reading, write_columns, write_comments, writing
+from chtab._files.forms import columns, reading, write_comments, writing
 
 if TYPE_CHECKING:
     from chtab.typing import Source, Target
@@ -171,26 +171,6 @@ def write_list(
         for node, note in zip(nodes, notes or itertools.repeat(None)):
             write_comments(file, () if note is None else (note,))
             file.write(f"s {node}\n")
-
-
-def write_list_column(target: Target, nodes: Any) -> None:
-    """Writes the same list as `write_list`, from a column. Nothing is checked.
-
-    Parameters
-    ----------
-    target : path or open file
-        The file to write.
-    nodes : array of int64, shape (n,)
-        Nodes from 1 on.
-
-    Raises
-    ------
-    OSError
-        The file can't be written.
-    """
-    with writing(target) as file:
-        file.write(f"p aux sp ss {len(nodes)}\n")
-        write_columns(file, "s %d\n", [nodes])
 
 
 def read_places(source: Source) -> Iterator[Place]:

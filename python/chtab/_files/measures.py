@@ -123,6 +123,15 @@ class Measure:
         return pandas.Series(pandas.arrays.IntegerArray(whole, weights < 0))
 
 
+def listed(limits: Any) -> list[Any]:
+    """Limits one by one. As objects numpy would make numbers of its durations in nanoseconds."""
+    is_of_durations = isinstance(limits, numpy.ndarray) and limits.dtype.kind == "m"
+    given = limits if is_of_durations else numpy.asarray(limits, object)
+    if given.ndim > 1:
+        raise ValueError("several limits are one list")
+    return [*numpy.atleast_1d(given)]
+
+
 def microseconds(duration: Any) -> Fraction:
     """The microseconds of a duration, as a fraction."""
     if isinstance(duration, numpy.timedelta64):

@@ -45,11 +45,11 @@ class Numbers:
         if isinstance(given, numpy.ma.MaskedArray):
             given = columns.array_of(name, given)
         column = numpy.asarray(given)
-        if column.dtype == object and all(map(is_number, column.flat)):
+        if column.dtype == object and all(map(columns.is_number, map(type, column.flat))):
             # Such as a column of pandas whose type has missing values.
             column = numpy.array(column.tolist()).reshape(column.shape)
         are_numbers = column.dtype.kind in "iu" or column.dtype.kind == "f" and is_whole(column)
-        if column.size and not are_numbers:
+        if column.size and not (are_numbers and not has_truths(given)):
             raise no_number(name, column, given)
         outside = columns.first_of((column < 1) | (column > self.count))
         if outside is not None:
@@ -78,8 +78,10 @@ class Numbers:
         return nodes
 
 
-def is_number(value: Any) -> bool:
-    return columns.is_integer(type(value)) or isinstance(value, float | numpy.floating)
+def has_truths(given: Any) -> bool:
+    """Whether a list has True or False, of which numpy makes numbers where others are in it."""
+    values: Any = numpy.array(given, object).flat if isinstance(given, list | tuple) else ()
+    return not {bool, numpy.bool_}.isdisjoint(map(type, values))
 
 
 def is_whole(column: NDArray[Any]) -> bool:
@@ -93,7 +95,8 @@ def no_number(name: str, column: NDArray[Any], given: Any) -> DataFault:
     array = column if is_array else numpy.array(given, object)
     values = array.reshape(-1).tolist()
     are_whole = (
-        columns.is_integer(type(value)) or is_number(value) and float(value).is_integer()
+        columns.is_integer(type(value))
+        or columns.is_number(type(value)) and float(value).is_integer()
         for value in values)
     place = next((place for place, is_one in enumerate(are_whole) if not is_one), 0)
     text = f"{quoted(values[place])} is no node: a node is a whole number"

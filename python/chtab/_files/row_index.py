@@ -59,3 +59,26 @@ def matched(names: Sequence[str], given: Sequence[Any]) -> list[Any]:
             raise DataFault(f"{text} nothing says which go together: {hint}", names[place])
         found[place] = given[place].iloc[other.get_indexer(index)]
     return found
+
+
+def by_labels(names: Sequence[str], column: Any, labels: Any) -> Any:
+    """A column of pandas in the order of a list of nodes by whose labels its rows are called. It is
+    refused if it lacks some of them, or if its rows may have numbers that are no labels."""
+    index = index_of(column)
+    is_list = hasattr(labels, "__len__") and index_of(labels) is None
+    if index is None or not is_list or not 0 < len(index) == len(labels):
+        return column
+    own, wanted = index.tolist(), list(labels)
+    try:
+        apart = {*own} ^ {*wanted}
+    except TypeError:
+        return column
+    # Numbers of rows and of nodes may be equal by chance, but not strings.
+    is_called_so = isinstance(own[0], str | tuple) and not {*own}.isdisjoint(wanted)
+    if own == wanted or apart and not is_called_so:
+        return column
+    if apart or not index.is_unique or own == [*range(len(own))]:
+        text = f"the index of {names[0]} has labels of nodes, and {names[1]} has others, or another"
+        hint = "order, so that nothing says which go together: `to_numpy()` gives values without it"
+        raise DataFault(f"{text} {hint}", names[0])
+    return column.iloc[index.get_indexer(wanted)]

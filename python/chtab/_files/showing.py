@@ -12,7 +12,6 @@ if TYPE_CHECKING:
     import geopandas
     import matplotlib.axes
     import pandas
-
     from chtab.typing import Floats, Geojson
 
 # Rows of a table in a notebook.
@@ -50,10 +49,8 @@ class OnMap:
 
         Raises
         ------
-        ImportError
-            geopandas is not installed.
-        ChtabError
-            The network has no places of nodes.
+        ImportError, ChtabError
+            geopandas is not installed; or the network has no places of nodes.
         """
         found = geodataframe(self.to_geojson())
         if self._is_framed:
@@ -77,10 +74,8 @@ class OnMap:
 
         Raises
         ------
-        ImportError
-            matplotlib is not installed.
-        ChtabError
-            The network has no places of nodes.
+        ImportError, ChtabError
+            matplotlib is not installed; or the network has no places of nodes.
         """
         features = [each for each in self.to_geojson()["features"] if each["geometry"]]
         return drawn(features, self.shown_by, ax, style)
@@ -102,10 +97,8 @@ class OnMap:
 
         Raises
         ------
-        ImportError
-            folium is not installed.
-        ChtabError
-            The network has no places of nodes.
+        ImportError, ChtabError
+            folium is not installed; or the network has no places of nodes.
         """
         features = [each for each in self.to_geojson()["features"] if each["geometry"]]
         return explored(features, self.shown_by, style)

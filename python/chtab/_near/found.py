@@ -16,7 +16,6 @@ from chtab._files.showing import SHOWN, OnMap, table_of
 if TYPE_CHECKING:
     import pandas
     import scipy.sparse
-
     from chtab._near.rows import Rows
     from chtab._roads.layers import Layers
 

@@ -8,7 +8,7 @@ from typing import TYPE_CHECKING, Any, NamedTuple
 
 import numpy
 
-from chtab._files.measures import MOST
+from chtab._files import measures
 from chtab._near import blocks, sums
 from chtab._near.question import NearQuestion, Question, SpotQuestion
 from chtab._roads.pairs import nodes_in
@@ -124,16 +124,13 @@ def is_from(direction: str) -> bool:
 
 def limits_in(measure: Measure, within: Any) -> Limits:
     """One limit or a list of limits. No weight is above the largest, which stands for infinity."""
-    given = numpy.asarray(within, object)
-    if given.ndim > 1:
-        raise ValueError("several limits are one list")
-    listed = numpy.atleast_1d(given).tolist()
-    if None in listed:
+    listed = measures.listed(within)
+    if any(each is None for each in listed):
         raise TypeError("within is a number, or a list of numbers, not None")
     found = [measure.limit("within", each) for each in listed]
-    whole = [MOST if limit is None else limit for limit in found]
+    whole = [measures.MOST if limit is None else limit for limit in found]
     numbers = [measure.number("within", each) for each in listed]
-    return Limits(whole, numbers, listed, given.ndim == 1, measure)
+    return Limits(whole, numbers, listed, numpy.ndim(within) == 1, measure)
 
 
 def values_asked(

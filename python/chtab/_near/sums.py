@@ -16,7 +16,6 @@ from chtab._near.question import NearQuestion
 
 if TYPE_CHECKING:
     from numpy.typing import NDArray
-
     from chtab._files.measures import Measure
     from chtab._engine.in_process import InProcess
     from chtab._near.blocks import Question
@@ -97,7 +96,9 @@ def values_in(
     """The targets (l,), their values (l, c), and names of columns or None; without targets the
     index or keys of values have their labels, and an array has a value for each of all nodes."""
     if targets is not None:
-        values, targets = row_index.matched(("values", "targets"), (values, targets))
+        names_of = "values", "targets"
+        values, targets = row_index.matched(names_of, (values, targets))
+        values = row_index.by_labels(names_of, values, targets)
     if targets is None and hasattr(values, "keys"):
         has_index = hasattr(values, "index")
         targets = values.index if has_index else [*values.keys()]
@@ -241,9 +242,7 @@ PARTS: dict[str, Callable[..., State]] = {
     "std": moments,
 }
 JOINED: dict[str, Callable[[State, State], State]] = {
-    "sum": added,
-    "count": added,
-    "mean": added,
+    **dict.fromkeys(("sum", "count", "mean"), added),
     "std": joined_moments,
     "min": lambda first, second: [numpy.minimum(first[0], second[0])],
     "max": lambda first, second: [numpy.maximum(first[0], second[0])],

@@ -16,7 +16,6 @@ from chtab._roads.lines import metres_between
 if TYPE_CHECKING:
     import geopandas
     from numpy.typing import NDArray
-
     from chtab.typing import Integers
 
 

@@ -14,7 +14,6 @@ from chtab.files import Answer
 if TYPE_CHECKING:
     import pandas
     from numpy.typing import NDArray
-
     from chtab._engine.walks import Paths
     from chtab._roads.layers import Layers
     from chtab.typing import Integers
@@ -128,10 +127,8 @@ class Routes(showing.OnMap, collections.abc.Sequence):
 
         Raises
         ------
-        ImportError
-            pandas is not installed.
-        ChtabError
-            Metres are wanted, and the network has no places of nodes.
+        ImportError, ChtabError
+            pandas is not installed; or metres are wanted, and the network has no places of nodes.
         """
         import pandas
 
@@ -142,23 +139,12 @@ class Routes(showing.OnMap, collections.abc.Sequence):
         counts = pandas.arrays.IntegerArray(self.paths.counts.copy(), is_missing)
         frame.insert(3, "arcs", pandas.Series(counts))
         if metres:
-            along = numpy.where(is_missing, numpy.nan, self.lengths())
+            along = numpy.where(is_missing, numpy.nan, self._lengths())
             frame.insert(4, "metres", along)
         return frame.rename_axis("query")
 
-    def lengths(self) -> NDArray[numpy.float64]:
-        """Returns the metres along each route, 0 where no path leads.
-
-        Returns
-        -------
-        array of float64, shape (n,)
-            The metres along roads, with their bends if the network knows them.
-
-        Raises
-        ------
-        ChtabError
-            The network has no places of nodes.
-        """
+    def _lengths(self) -> NDArray[numpy.float64]:
+        """The metres along each route with its bends if they are known; 0 where no path leads."""
         of_arcs = self.layers.roads.nanometres[self.paths.arcs].astype(numpy.int64)
         return numpy.diff(numpy.append(0, numpy.cumsum(of_arcs))[self.firsts]) * 1e-9
 

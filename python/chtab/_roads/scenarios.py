@@ -130,13 +130,13 @@ class Given(NamedTuple):
         is_closed = numpy.zeros(len(self.rows), bool)
         if closed is None:
             return is_closed
+        if isinstance(closed, Mapping):
+            text = "closed is a list of arcs, or a Series of True and False, and no dict of these"
+            raise DataFault(text, "closed")
         if isinstance(closed, str) or not hasattr(closed, "__iter__"):
             what = "one way or street" if isinstance(closed, str) else "one row"
             raise DataFault(f"closed is a list: [{closed!r}] is {what}", "closed")
-        if (
-            isinstance(closed, tuple) and len(closed) in (1, 2, 3)
-            and not any(isinstance(part, tuple | list | Spots) for part in closed)
-        ):
+        if is_one_arc(closed):
             raise DataFault(
                 f"closed is a list: [{closed!r}] is one arc, and {[*closed]!r} are rows", "closed")
         column = mask_in(closed)
@@ -311,6 +311,14 @@ def order_of(layers: Layers, order: Any) -> bytes | str | None:
     if nodes.ndim != 1 or not numpy.array_equal(numpy.sort(nodes), numpy.arange(1, count + 1)):
         raise DataFault(f"order does not have each of the {count:,} nodes once", "order")
     return customizing.lines_of(nodes)
+
+
+def is_one_arc(closed: Any) -> bool:
+    """Whether a list of names is rather one name: nodes in a tuple, or two numbers in a set."""
+    if isinstance(closed, set | frozenset):
+        return len(closed) == 2 and all(columns.is_integer(type(each)) for each in closed)
+    are_parts = isinstance(closed, tuple) and len(closed) in (1, 2, 3)
+    return are_parts and not any(isinstance(part, tuple | list | Spots) for part in closed)
 
 
 def mask_in(closed: Any) -> NDArray[Any] | None:

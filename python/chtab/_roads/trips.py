@@ -9,6 +9,7 @@ from typing import TYPE_CHECKING, Any
 import numpy
 
 from chtab._engine.walks import NO_WALK
+from chtab._files import measures
 from chtab._near import blocks
 from chtab._near.question import NearQuestion
 from chtab._roads.legs import FAR, best_ways, legs_between, table_ways
@@ -111,7 +112,7 @@ class Trips:
 
 def limits_in(measure: Measure, limits: Any) -> list[tuple[int, float]]:
     """Limits above 0 in the unit of the graph and in that of the caller, the largest first."""
-    given = numpy.atleast_1d(numpy.asarray(limits, object)).tolist()
+    given = measures.listed(limits)
     wholes = [measure.limit("limits", limit) or 0 for limit in given]
     if not given or min(wholes) <= 0:
         raise ValueError("limits are one or several numbers above 0, and none is infinite")
