@@ -18,6 +18,19 @@ def least_of(count, arcs, sources=None):
     return numpy.where(numpy.isinf(found), -1, numpy.floor(numpy.nan_to_num(found, posinf=0) + 1e-9)).astype(numpy.int64)
 
 
+def flows_owed(count, tails, heads, weights, pairs, demands):
+    """The sum of the demands of pairs on each arc by scipy's predecessors, where no two paths weigh the same; and how many pairs have no path."""
+    away, before = csgraph.dijkstra(scipy.sparse.csr_array((weights, (tails, heads)), shape=(count, count)), return_predecessors=True)
+    flows, missed = {}, 0
+    for (source, target), demand in zip(pairs, demands):
+        missed += bool(numpy.isinf(away[source, target]))
+        while source != target and numpy.isfinite(away[source, target]):
+            last = int(before[source, target])
+            flows[last, int(target)] = flows.get((last, int(target)), 0) + demand
+            target = last
+    return [flows.get((int(tail), int(head)), 0) for tail, head in zip(tails, heads)], missed
+
+
 def arcs_of(graph):
     """The arcs of a graph of files, by nodes from 0 on."""
     return [(tail - 1, head - 1, weight) for tail, head, weight in zip(*graph[1:4])]

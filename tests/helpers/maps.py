@@ -10,6 +10,7 @@ from xml.sax.saxutils import quoteattr
 
 from helpers.packages import PYTHON
 from helpers.running import ROOT
+from oracles import dijkstra
 
 sys.path.insert(0, str(ROOT / "python"))
 
@@ -161,6 +162,18 @@ def random_relation(draw, nodes, ways):
     key = draw.choice(["restriction"] * 8 + ["restriction:bicycle", "restriction:foot"])
     tags = {"type": "restriction", key: draw.choice(["no_", "no_", "only_"]) + draw.choice(turns)}
     return members, tags | ({"except": draw.choice(["bicycle", "motorcar;psv"])} if draw.random() < 0.1 else {})
+
+
+def first_nodes(names):
+    """The first node of each of the map's nodes, by the names of all nodes in order."""
+    return {name: number for number, name in reversed([*enumerate(names, 1)])}
+
+
+def searched(made, starts=None):
+    """The least weight from some nodes of the map, or each, to each other one: from where trips start to where they end."""
+    firsts, ends, ahead = first_nodes(made.names), dict(made.ends), dijkstra.arcs_ahead(made.arcs)
+    rows = {name: dijkstra.distances_from(firsts[name], ahead) for name in (firsts if starts is None else starts)}
+    return {(name, other): row[end] for name, row in rows.items() for other, number in firsts.items() if (end := ends.get(number, number)) in row}
 
 
 def called(made):

@@ -73,6 +73,13 @@ def trips_of(arcs, names, nodes):
     return [[row.get(ends.get(target, target), -1) for target in begins] for row in rows]
 
 
+def trips_between(network, names, nodes):
+    """The weights of trips between all nodes of the map in a network of it; `names` are those of its nodes."""
+    places = (network.coordinates.of(names.index(node) + 1) for node in nodes)
+    spots = network.snap(*zip(*places))
+    return network.trip_table(spots, spots).tolist()
+
+
 def after(network, pairs, **change):
     """The distances of pairs in a network that is made of another one, -1 where no path leads."""
     with network.changed(**change) as other:

@@ -5,6 +5,7 @@
 Run it in tests/, or with tests/ in PYTHONPATH.
 """
 import heapq
+import math
 import sys
 from collections import defaultdict
 
@@ -34,7 +35,22 @@ def least_costs(source, ahead):
 
 def distances_from(source, ahead):
     """The least weight of a walk from the source to each node that it reaches."""
-    return {node: weight for node, (weight, _) in least_costs(source, ahead).items()}
+    return reached([(0, source)], lambda node: ahead[node])
+
+
+def reached(begun, following, most=math.inf):
+    """The least weights at which things are reached, up to a limit. `begun` has pairs (weight, thing), and a call gives (thing, weight) of those
+    that follow on one. Arcs that follow on arcs, with their weights and those of turns, are searched as nodes are."""
+    best, queue = {}, [*begun]
+    heapq.heapify(queue)
+    while queue:
+        weight, here = heapq.heappop(queue)
+        if weight <= most and here not in best:
+            best[here] = weight
+            for there, step in following(here):
+                if there not in best:
+                    heapq.heappush(queue, (weight + step, there))
+    return best
 
 
 def main():

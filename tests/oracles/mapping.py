@@ -10,6 +10,8 @@ import tomllib
 import xml.etree.ElementTree
 from fractions import Fraction
 
+from oracles import dijkstra
+
 TABLES = pathlib.Path(__file__).resolve().parent.parent.parent / "python" / "chtab_maps" / "tables"
 TURNS = {f"no_{turn}" for turn in ("left_turn", "right_turn", "straight_on", "u_turn", "entry", "exit")}
 TURNS |= {f"only_{turn}" for turn in ("left_turn", "right_turn", "straight_on", "u_turn")}
@@ -270,37 +272,26 @@ def branches_of(found):
     return collections.Counter(node for pair in ends.values() for node in pair)
 
 
-def trip(found, never, leaving, arriving):
+def follow(found, never):
+    """For each arc those that may follow on it, each with its weight."""
+    leaving = collections.defaultdict(list)
+    for at, arc in enumerate(found):
+        leaving[arc[0]].append((at, arc[2]))
+    return [[(at, weight) for at, weight in leaving[arc[1]] if (here, at) not in never] for here, arc in enumerate(found)]
+
+
+def trip(found, following, leaving, arriving):
     """The least weight of a trip that begins on some arcs and ends on some, each with the part of it that lies behind (0 to 1): {arc: part}.
     Infinite where there is none. Searched from arc to arc."""
-    best = {at: (1 - part) * found[at][2] for at, part in leaving.items()}
+    best = dijkstra.reached([((1 - part) * found[at][2], at) for at, part in leaving.items()], following.__getitem__)
     ends = [(arriving[at] - part) * found[at][2] for at, part in leaving.items() if part <= arriving.get(at, -1)]
-    todo = list(best)
-    while todo:
-        here = todo.pop(0)
-        for at, arc in enumerate(found):
-            if arc[0] == found[here][1] and (here, at) not in never:
-                if at in arriving:
-                    ends.append(best[here] + arriving[at] * arc[2])
-                if best[here] + arc[2] < best.get(at, math.inf):
-                    best[at] = best[here] + arc[2]
-                    todo.append(at)
+    ends += [weight + arriving[at] * found[at][2] for here, weight in best.items() for at, _ in following[here] if at in arriving]
     return min(ends, default=math.inf)
 
 
-def distances(found, never, start):
+def distances(found, following, start):
     """The least weight of a trip from a node to each other one, in which no arc follows that may not: searched from arc to arc."""
-    best = {at: arc[2] for at, arc in enumerate(found) if arc[0] == start}
-    todo = list(best)
-    while todo:
-        here = todo.pop(0)
-        for at, arc in enumerate(found):
-            weight = best[here] + arc[2]
-            if arc[0] == found[here][1] and (here, at) not in never and weight < best.get(at, math.inf):
-                best[at] = weight
-                todo.append(at)
-    reached = {start: 0}
+    best, ends = dijkstra.reached([(arc[2], at) for at, arc in enumerate(found) if arc[0] == start], following.__getitem__), {start: 0}
     for at, weight in best.items():
-        end = found[at][1]
-        reached[end] = min(weight, reached.get(end, math.inf))
-    return reached
+        ends[found[at][1]] = min(weight, ends.get(found[at][1], math.inf))
+    return ends

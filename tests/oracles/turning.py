@@ -4,7 +4,6 @@ Directions are found in space: roads are followed as lines between points of the
 direction is that of a chord, by its parts to the east and to the north.
 """
 import collections
-import heapq
 import math
 
 from oracles import mapping
@@ -94,21 +93,14 @@ class Turns:
             seconds += by_angle(angle, self.is_left_hand)
         return 1000 * (seconds + 20 * is_back)
 
+    def following(self, costs=None, is_open=lambda arc: True):
+        """For each arc those that follow on it, each with its weight and the whole cost of the turn."""
+        found = [[] for _ in self.arcs]
+        for (a, b), cost in (self.costs if costs is None else costs).items():
+            if is_open(b):
+                found[a].append((b, round(cost) + self.arcs[b][2]))
+        return found
+
     def distances(self, start, costs=None):
         """The least weights from a node to all others, over arcs with whole costs of turns."""
-        costs = {pair: round(cost) for pair, cost in self.costs.items()} if costs is None else costs
-        ahead = collections.defaultdict(list)
-        for (a, b), cost in costs.items():
-            ahead[a].append((b, cost))
-        queue, best = [(arc[2], a) for a, arc in enumerate(self.arcs) if arc[0] == start], {}
-        heapq.heapify(queue)
-        while queue:
-            weight, a = heapq.heappop(queue)
-            if a not in best:
-                best[a] = weight
-                for b, cost in ahead[a]:
-                    heapq.heappush(queue, (weight + cost + self.arcs[b][2], b))
-        reached = {start: 0}
-        for a, weight in best.items():
-            reached[self.arcs[a][1]] = min(weight, reached.get(self.arcs[a][1], math.inf))
-        return reached
+        return mapping.distances(self.arcs, self.following(costs), start)

@@ -3,7 +3,6 @@ some drawn by hand each property of those that are told is looked at by a progra
 searches as Dijkstra did.
 """
 import collections
-import heapq
 import itertools
 import json
 import math
@@ -12,6 +11,7 @@ import random
 from helpers.maps import COUNTRY, town, town_at_a_cost
 from helpers.marks import needs
 from helpers.running import PROGRAM
+from oracles import dijkstra
 import chtab
 from chtab_server.osrm import answering, url
 
@@ -24,9 +24,7 @@ class Judge:
     def __init__(self, out):
         lines = open(f"{out}.gr").read().splitlines()
         self.arcs = [tuple(map(int, line.split()[1:])) for line in lines if line.startswith("a ")]
-        self.ahead = collections.defaultdict(list)
-        for tail, head, weight in self.arcs:
-            self.ahead[tail].append((head, weight))
+        self.ahead = dijkstra.arcs_ahead(self.arcs)
         self.crossing = {}
         for line in open(f"{out}.co"):
             words = line.replace(",", "").replace(".", "").split()
@@ -37,16 +35,7 @@ class Judge:
 
     def reached(self, starts, most=math.inf):
         """The least weights from some nodes, each with an added weight, up to a limit."""
-        best, queue = {}, [(weight, node) for node, weight in starts]
-        heapq.heapify(queue)
-        while queue:
-            weight, node = heapq.heappop(queue)
-            if weight > most or best.setdefault(node, weight) != weight:
-                continue
-            for head, more in self.ahead[node]:
-                if head not in best:
-                    heapq.heappush(queue, (weight + more, head))
-        return best
+        return dijkstra.reached([(weight, node) for node, weight in starts], self.ahead.__getitem__, most)
 
     def road(self, arc):
         """An arc by the crossings at its ends, or by itself if it stays at one, as a turn does."""

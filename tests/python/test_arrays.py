@@ -117,9 +117,6 @@ def test_faults_of_the_program_leave_nothing():
         assert os.listdir() == ["fails"] and left() == []
 
 
-# Files.
-
-
 def test_a_folder_is_opened_again():
     """With labels, places and rounding; the folder that is there is not written over."""
     places = {"nodes": ["a", "b", "c"], "x": [9.5, 9.6, 9.7], "y": [47.0, 47.1, 47.2]}
@@ -200,9 +197,6 @@ def test_temporary_files_go_with_the_network():
             assert (done.stdout, done.stderr, left()) == ("4\n", "", []), done
 
 
-# Large ones.
-
-
 def lines_that_run(arcs, kind):
     """How many lines of Python run while a network's arcs are made and written, for a program that builds nothing."""
     draw, count = numpy.random.default_rng(1), [0]
@@ -230,9 +224,6 @@ def test_no_line_runs_for_each_arc(kind):
     """Whatever is done with each arc is done by numpy, or by a call of Python that is no line of its own."""
     few, many = lines_that_run(5_000, kind), lines_that_run(200_000, kind)
     assert 100 < few and many < few + MORE_LINES, (few, many)
-
-
-# Frames and graphs.
 
 
 def test_frames():

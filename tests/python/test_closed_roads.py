@@ -7,7 +7,7 @@ from helpers.columns import least_of
 from helpers.commands import raises
 from helpers.marks import needs
 from helpers.running import PROGRAM
-from helpers.scenarios import after, by_nodes, each_way, grid_map, trips_of, with_turns  # noqa: F401
+from helpers.scenarios import after, by_nodes, each_way, grid_map, trips_between, trips_of, with_turns  # noqa: F401
 from helpers.science import networkx, numpy
 from oracles import dijkstra
 import chtab
@@ -141,15 +141,10 @@ def test_roads_are_added_where_turns_are_restricted():
     begin = {node: names.index(node) + 1 for node in nodes}
     with chtab.Network.open("turns.gr", program=PROGRAM) as network:
         arcs, coordinates = list(zip(*(column.tolist() for column in network.graph[1:4]))), network.coordinates
-        ends, places = coordinates.ends(), list(zip(*(coordinates.of(begin[node]) for node in nodes)))
+        ends = coordinates.ends()
         # By one road all that arrive at node 9 have to stay there.
         assert {names[end - 1] for end in ends.values()} == {5, 9} and len(names) > 12
-
-        def trips(network):
-            spots = network.snap(*places)
-            return network.trip_table(spots, spots).tolist()
-
-        assert trips(network) == trips_of(arcs, names, nodes)
+        assert trips_between(network, names, nodes) == trips_of(arcs, names, nodes)
         for tail, head in (9, 1), (5, 7), (5, 5), (3, 9), (9, 5):
             copies = [number for number, name in enumerate(names, 1) if name == tail]
             wanted = trips_of([*arcs, *((copy, begin[head], 5) for copy in copies)], names, nodes)
@@ -157,7 +152,7 @@ def test_roads_are_added_where_turns_are_restricted():
             for source in {begin[tail], copies[-1]}:
                 closed = [(begin[tail], begin[head])] if tail != head else [len(arcs)]
                 with network.changed(added=[(source, begin[head], 5)]) as other, other.changed(closed=closed) as again:
-                    assert trips(other) == wanted and trips(again) == trips_of(left, names, nodes), (tail, head)
+                    assert trips_between(other, names, nodes) == wanted and trips_between(again, names, nodes) == trips_of(left, names, nodes), (tail, head)
                     # Where trips to the head end elsewhere, the last arc leads there.
                     rows = other.routes([(begin[tail], begin[head])]).rows()[0].tolist()
                     assert rows[:1] == [len(arcs)] and len(rows) == 1 + (begin[head] in ends) or tail == head, rows

@@ -1,5 +1,4 @@
 """Tests networks whose weights are customized: their answers, the orders in which that is done, and what is kept of them."""
-import concurrent.futures
 import os
 import pathlib
 import pickle
@@ -11,7 +10,6 @@ from helpers.commands import raises, temporary
 from helpers.marks import needs
 from helpers.running import PROGRAM, ROOT
 from helpers.scenarios import of_roads
-from helpers.waiting import PATIENCE
 import chtab
 from chtab._engine import library as calls
 
@@ -163,25 +161,3 @@ def test_a_folder_that_can_not_have_the_order_leaves_the_network():
         pathlib.Path("own/network.order/in the way").mkdir(parents=True)
         raises(OSError, network.customizable)
         assert network._topology() is None and not [*pathlib.Path("own").glob("*.part-*")]
-
-
-def test_weights_that_are_too_large_are_refused(no_building):
-    with of_roads().customizable() as network, temporary() as left:
-        own = left()
-        for weights in {0: 2.0**60}, {0: -1.0}, [1.0] * 4, {"pub": 1.0}:
-            raises(chtab.ChtabError, lambda: network.changed(weights))
-            assert left() == own and network.distances([("inn", "mill")]).tolist() == [2.0]
-
-
-def test_threads_change_and_ask_at_once(no_building):
-    """Four threads change the weights of one network, which answers on, and ask what comes out."""
-    path = ROOT / "examples" / "liechtenstein.gr"
-    with concurrent.futures.ThreadPoolExecutor(4) as threads, chtab.Network.open(path, program=PROGRAM) as network:
-        network.customizable()
-        wanted = network.distances([(2359, 910)]).tolist()
-
-        def changed(factor):
-            with network.changed([factor * weight for weight in network.graph.weights]) as other:
-                return other.distances([(2359, 910)]).tolist() == [factor * wanted[0]] and network.distances([(2359, 910)]).tolist() == wanted
-
-        assert [each.result(PATIENCE) for each in [threads.submit(changed, factor) for factor in range(1, 9)]] == [True] * 8

@@ -25,57 +25,52 @@ def routes_flows(network, pairs, demands, rows):
     return owed, missed
 
 
-# Flows.
-
-
-@pytest.mark.parametrize("workers, most", [(1, 1 << 16), (1, 7), (3, 7)])
+@pytest.mark.parametrize("workers, most", [(1, {}), (1, {"FLOWS": 7, "SIDE": 3}), (3, {"FLOWS": 7, "SIDE": 5, "WORTH": 8})])
 def test_flows_are_sums_over_routes(monkeypatch, workers, most):
-    """Of random networks with many ties, parallel arcs, loops and rows that lead both ways, exactly, by one call and by parts of several threads."""
+    """Of random networks with many ties, parallel arcs, loops and rows that lead both ways, exactly: of pairs and of tables, by one call and by parts
+    of several threads."""
     import numpy
 
-    monkeypatch.setattr(in_process, "FLOWS", most)
+    for name, number in most.items():
+        monkeypatch.setattr(in_process, name, number)
     for seed in range(16):
         draw = numpy.random.default_rng(seed)
-        count, size, asked = int(draw.integers(2, 25)), int(draw.integers(1, 80)), int(draw.integers(0, 60))
+        count, size = int(draw.integers(2, 25)), int(draw.integers(1, 80))
         tails, heads, weights = draw.integers(0, count, size), draw.integers(0, count, size), draw.integers(0, 4, size)
         labels = numpy.array([f"node {number}" for number in range(count)])
-        pairs = draw.integers(0, count, (asked, 2))
-        demands = draw.integers(0, [3, 2**47][seed % 2], asked)
+        shape = tuple(draw.integers(0, 9, 2).tolist())
+        origins, destinations = (labels[draw.integers(0, count, length)] for length in shape)
+        demands, pairs = draw.integers(0, [3, 2**47][seed % 2], shape), (numpy.repeat(origins, shape[1]), numpy.tile(destinations, shape[0]))
         made = chtab.Network.from_arrays(
             labels[tails], labels[heads], weights, nodes=labels, both_ways=bool(seed % 3), program=PROGRAM, workers=workers)
         with made as network:
-            owed, missed = routes_flows(network, labels[pairs], demands.tolist(), size)
-            found = network.flows(labels[pairs[:, 0]], labels[pairs[:, 1]], demands)
-            assert found.tolist() == owed and found.dtype == numpy.int64 and found.index.tolist() == [*range(size)], seed
-            assert found.attrs == {"pairs without a route": missed}, seed
-            assert network.flows(labels[pairs[:, 0]], labels[pairs[:, 1]]).tolist() == routes_flows(network, labels[pairs], [1] * asked, size)[0]
+            owed, missed = routes_flows(network, numpy.column_stack(pairs), demands.reshape(-1).tolist(), size)
+            ones, _ = routes_flows(network, numpy.column_stack(pairs), [1] * demands.size, size)
+            for found in network.flows(*pairs, demands.reshape(-1)), network.flows_table(demands, origins, destinations):
+                assert found.tolist() == owed and found.dtype == numpy.int64 and found.index.tolist() == [*range(size)], seed
+                assert found.attrs == {"pairs without a route": missed}, seed
+            assert network.flows(*pairs).tolist() == ones == network.flows_table(1, origins, destinations).tolist()
 
 
 @needs("python3-scipy")
 def test_flows_are_those_of_scipy():
-    """Where no two paths weigh the same, they are what its predecessors give."""
+    """Where no two paths weigh the same, they are what its predecessors give, of pairs and of tables."""
     import numpy
-    import scipy.sparse
 
-    for seed in range(6):
+    from helpers.columns import flows_owed
+
+    for seed in range(5):
         draw = numpy.random.default_rng(seed)
-        count = 60
-        cells = draw.permutation(count * count)[:240]
-        tails, heads = cells // count, cells % count
+        tails, heads = numpy.divmod(draw.permutation(3_600)[:240], 60)
         # Sums of different powers of 2 differ.
-        weights = 2 ** (20 + draw.permutation(240) % 17) + draw.permutation(2**20)[:240]
-        graph = scipy.sparse.csr_array((weights, (tails, heads)), (count, count))
-        away, before = scipy.sparse.csgraph.dijkstra(graph, return_predecessors=True)
-        pairs, demands = draw.integers(0, count, (300, 2)), draw.random(300)
-        owed = {}
-        for (source, target), demand in zip(pairs.tolist(), demands.tolist()):
-            while numpy.isfinite(away[source, target]) and source != target:
-                last = int(before[source, target])
-                owed[last, target] = owed.get((last, target), 0) + round(demand * 2**20)
-                target = last
-        with chtab.Network.from_arrays(tails, heads, weights, nodes=range(count), program=PROGRAM) as network:
-            found = network.flows(pairs[:, 0], pairs[:, 1], demands, scale=2**20)
-        assert (found * 2**20).tolist() == [owed.get(ends, 0) for ends in zip(tails.tolist(), heads.tolist())], seed
+        weights, demands = 2 ** (20 + draw.permutation(240) % 17) + draw.permutation(2**20)[:240], draw.integers(0, 2**40, (60, 60))
+        pairs, shares = draw.integers(0, 60, (300, 2)), draw.random(300)
+        with chtab.Network.from_arrays(tails, heads, weights, nodes=range(60), program=PROGRAM) as network:
+            found = network.flows(pairs[:, 0], pairs[:, 1], shares, scale=2**20)
+            table = network.flows_table(demands, range(60), range(60))
+        assert (found * 2**20).tolist() == flows_owed(60, tails, heads, weights, pairs, [round(share * 2**20) for share in shares])[0], seed
+        owed, missed = flows_owed(60, tails, heads, weights, numpy.ndindex(60, 60), demands.reshape(-1).tolist())
+        assert table.tolist() == owed and table.attrs == {"pairs without a route": missed}, seed
 
 
 def test_flows_have_the_names_of_rows():
@@ -145,63 +140,6 @@ def test_progress_of_flows(monkeypatch):
 
         raises(KeyboardInterrupt, partial(network.flows, progress=stop), [1] * 10, [3] * 10)
         assert network.flows([1], [3]).tolist() == [1, 1]
-
-
-# Tables.
-
-
-@pytest.mark.parametrize("workers, side, worth", [(1, 1 << 12, 1 << 20), (1, 3, 1 << 20), (3, 5, 8)])
-def test_flows_of_tables_are_sums_over_routes(monkeypatch, workers, side, worth):
-    """Of random networks with many ties, exactly, whole and by blocks of several threads; and those of pairs give the same."""
-    import numpy
-
-    monkeypatch.setattr(in_process, "SIDE", side)
-    monkeypatch.setattr(in_process, "WORTH", worth)
-    for seed in range(16):
-        draw = numpy.random.default_rng(seed)
-        count, size = int(draw.integers(2, 25)), int(draw.integers(1, 80))
-        shape = tuple(draw.integers(0, 9, 2).tolist())
-        tails, heads, weights = draw.integers(0, count, size), draw.integers(0, count, size), draw.integers(0, 4, size)
-        labels = numpy.array([f"node {number}" for number in range(count)])
-        origins, destinations = (labels[draw.integers(0, count, length)] for length in shape)
-        demands = draw.integers(0, [3, 2**47][seed % 2], shape)
-        pairs = numpy.column_stack([numpy.repeat(origins, shape[1]), numpy.tile(destinations, shape[0])])
-        made = chtab.Network.from_arrays(
-            labels[tails], labels[heads], weights, nodes=labels, both_ways=bool(seed % 3), program=PROGRAM, workers=workers)
-        with made as network:
-            owed, missed = routes_flows(network, pairs, demands.reshape(-1).tolist(), size)
-            found = network.flows_table(demands, origins, destinations)
-            assert found.tolist() == owed and found.dtype == numpy.int64 and found.index.tolist() == [*range(size)], seed
-            assert found.attrs == {"pairs without a route": missed}, seed
-            assert found.equals(network.flows(pairs[:, 0], pairs[:, 1], demands.reshape(-1)))
-            assert network.flows_table(1, origins, destinations).tolist() == routes_flows(network, pairs, [1] * len(pairs), size)[0]
-
-
-@needs("python3-scipy")
-def test_flows_of_tables_are_those_of_scipy():
-    """Where no two paths weigh the same, they are what its predecessors give."""
-    import numpy
-    import scipy.sparse
-
-    for seed in range(4):
-        draw = numpy.random.default_rng(seed)
-        count = 60
-        cells = draw.permutation(count * count)[:240]
-        tails, heads = cells // count, cells % count
-        weights = 2 ** (20 + draw.permutation(240) % 17) + draw.permutation(2**20)[:240]
-        graph = scipy.sparse.csr_array((weights, (tails, heads)), (count, count))
-        away, before = scipy.sparse.csgraph.dijkstra(graph, return_predecessors=True)
-        demands, owed = draw.integers(0, 2**40, (count, count)), {}
-        for source, target in numpy.ndindex(count, count):
-            node = target
-            while numpy.isfinite(away[source, target]) and source != node:
-                last = int(before[source, node])
-                owed[last, node] = owed.get((last, node), 0) + int(demands[source, target])
-                node = last
-        with chtab.Network.from_arrays(tails, heads, weights, nodes=range(count), program=PROGRAM) as network:
-            found = network.flows_table(demands, range(count), range(count))
-        assert found.tolist() == [owed.get(ends, 0) for ends in zip(tails.tolist(), heads.tolist())], seed
-        assert found.attrs == {"pairs without a route": int((~numpy.isfinite(away)).sum())}
 
 
 def test_tables_of_demands_as_frames():
@@ -286,9 +224,6 @@ def test_flows_are_drawn_by_their_widths():
             raises(ValueError, network.to_geodataframe, wrong)
         for widest in 0, -1, numpy.inf, True, "2":
             raises(ValueError, partial(network.plot, widest=widest), flows, told="widest")
-
-
-# Equilibrium.
 
 
 def test_tables_have_the_same_equilibrium():

@@ -57,9 +57,6 @@ def interrupt(number, frame):
     raise KeyboardInterrupt
 
 
-# Numbers.
-
-
 def test_nodes_are_whole_numbers():
     """Whole decimal numbers are nodes, of any kind and order of bytes. Truths, times and texts are none; numbers past 2^63 are told as they are."""
     with chtab.Network.open(FIRST, program=PROGRAM) as network:
@@ -137,9 +134,6 @@ def test_labels_are_of_any_size():
         raises(chtab.DataFault, lambda: chtab.Network.from_arrays([1], [2], weights, program=PROGRAM), told="too large")
 
 
-# Files.
-
-
 @pytest.mark.parametrize("change", ["a 1 2 5\n", "a 1 2 4 \n"])
 def test_a_graph_that_was_changed_is_not_asked_on(change):
     """A graph that was written anew is refused by whatever would read it later: a process that is forked, and what stands beside the answers. What
@@ -206,9 +200,6 @@ def test_a_signal_leaves_no_folder(number):
         assert len(list(own.iterdir())) == 1
         process.send_signal(number)
     until(lambda: not list(own.iterdir()))
-
-
-# In the middle of a call.
 
 
 def test_a_signal_may_close_what_is_asked():
@@ -360,18 +351,16 @@ def test_time_is_looked_at_between_calls(monkeypatch):
         assert (other.distances(nodes, nodes[::-1]) == wanted).all() and len(other.near(nodes, [1])) == len(nodes)
 
 
-# How far a call is.
-
-
 @pytest.mark.parametrize("total, call", [
     (3, lambda network, told: network.distances([("inn", "mill")] * 3, progress=told)),
     (1, lambda network, told: network.table(["inn", "farm"], ["mill"] * 5, progress=told)),
     (2_000, lambda network, told: network.routes([("inn", "mill")] * 2_000, progress=told)),
+    (6, lambda network, told: network.near(None, ["mill", "farm", "inn"], progress=told)),
 ])
 def test_each_long_call_says_how_far_it_is(total, call):
-    """Distances, tables and routes count up to all that was asked for."""
+    """Distances, tables, routes, and blocks of near rows count up to all that was asked for; with False they say nothing."""
     seen = []
-    with of_minutes() as network:
+    with of_minutes() as network, small_blocks(2, 4):
         call(network, lambda done, of_all: seen.append((done, of_all)))
         assert seen and seen[-1] == (total, total) and [done for done, _ in seen] == sorted({done for done, _ in seen}), seen
         assert call(network, False) is not None

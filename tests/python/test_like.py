@@ -16,7 +16,7 @@ from helpers.forking import forked
 from helpers.in_process import make
 from helpers.marks import needs
 from helpers.running import PROGRAM, ROOT
-from helpers.scenarios import PLACES, after, each_way, of_roads, trips_of, with_turns  # noqa: F401
+from helpers.scenarios import PLACES, after, each_way, of_roads, trips_between, trips_of, with_turns  # noqa: F401
 from helpers.science import numpy, pandas, scipy
 from helpers.waiting import PATIENCE
 import chtab
@@ -129,20 +129,14 @@ def test_turns_stay_restricted_in_a_network_of_the_same_nodes():
         weights *= numpy.random.default_rng(6).integers(1, 5, len(weights))
         arcs = list(zip(tails.tolist(), heads.tolist(), weights.tolist()))
         left = [arc for arc in arcs if (names[arc[0] - 1], names[arc[1] - 1]) != (4, 5)]
-        places = list(zip(*(coordinates.of(names.index(node) + 1) for node in nodes)))
         own = {"nodes": network.labels, "x": coordinates.longitudes, "y": coordinates.latitudes}
-
-        def trips(network):
-            spots = network.snap(*places)
-            return network.trip_table(spots, spots).tolist()
-
         for more in {}, own, {"folder": "own"}:
             with chtab.Network.from_arrays(tails, heads, weights, like=network, program=PROGRAM, **more) as other:
-                assert trips(other) == trips_of(arcs, names, nodes) and other.coordinates.turns() == coordinates.turns() != [], [*more]
+                assert trips_between(other, names, nodes) == trips_of(arcs, names, nodes) and other.coordinates.turns() == coordinates.turns() != [], [*more]
                 with other.changed(closed=[(names.index(4) + 1, names.index(5) + 1)]) as again:
-                    assert trips(again) == trips_of(left, names, nodes)
+                    assert trips_between(again, names, nodes) == trips_of(left, names, nodes)
         with chtab.Network.open("own", program=PROGRAM) as other:
-            assert trips(other) == trips_of(arcs, names, nodes)
+            assert trips_between(other, names, nodes) == trips_of(arcs, names, nodes)
         kept = numpy.asarray(graph.weights) != 0
         fault = raises(chtab.DataFault, lambda: chtab.Network.from_arrays(tails[kept], heads[kept], weights[kept], like=network), told="turns are restricted in like")
         assert f"node {names.index(5) + 1} end at the node {coordinates.ends()[names.index(5) + 1]}" in str(fault)
@@ -191,9 +185,6 @@ def test_little_is_kept_for_what_stays_as_it_was():
         with chtab.Network.open(before, program=PROGRAM) as network:
             network.changed(**change, folder=folder).close()
         assert json.loads(pathlib.Path(folder, "network.json").read_text())["arcs"] == rows
-
-
-# Networks that are closed.
 
 
 def with_files():

@@ -119,7 +119,7 @@ def parts_of(text):
 
 
 # Calls that can't fail, because what they give is there.
-NEVER_FAIL = "files.scale_comment", "Network.close", "Routes.rows", "Routes.edges", "Near.owners", "Nearest.labels", "TripRoutes.to_geojson", "Isochrones.to_geojson"
+NEVER_FAIL = "Network.close", "Routes.rows", "Routes.edges", "Near.owners", "Nearest.labels", "TripRoutes.to_geojson", "Isochrones.to_geojson"
 # The most lines of a text, which have at most 100 columns.
 MOST_LINES = 72
 
@@ -146,20 +146,16 @@ def test_each_call_tells_what_it_takes_and_gives():
     assert count > 60, count
 
 
-def test_what_is_not_a_question_is_refused():
+def test_files_that_are_not_there_are_named():
     with chtab.Network.open(FIRST, program=PROGRAM) as network:
-        for pairs, told in ([(1, 4)], "node 4 is not from 1 to 3"), ([(0, 1)], "node 0"), ([1, 2, 3], "shape (n, 2)"), ([(1.5, 2)], "whole number"):
-            raises(ValueError, network.distances, pairs, told=told)
-        raises(ValueError, lambda: network.table([1], [2], within=-1), told="limit")
-        assert network.distances([]).shape == (0,) and network.table([], [1]).shape == (0, 1) and len(network.routes([])) == 0
         raises(chtab.ChtabError, lambda: network.coordinates, told="no file of coordinates")
-    raises(chtab.ChtabError, network.distances, [(1, 2)], told="closed")
     pathlib.Path("bad.gr").write_text("p sp 1 1\n")
-    fault = raises(chtab.ProgramFault, lambda: chtab.Network.open("bad.gr", program=PROGRAM), told="chtab: graph line 2: too few lines")
-    assert fault.status == 1
-    raises(ValueError, lambda: chtab.Network.open(FIRST, program=PROGRAM, workers=0), told="from 1 to 64")
-    raises(FileNotFoundError, lambda: chtab.Network.open("none.gr", program=PROGRAM))
-    raises(chtab.ChtabError, lambda: chtab.Network.open("bad.gr", program="no-program"), told="can't be run")
+    for kind, path, more, told in (
+        (chtab.ProgramFault, "bad.gr", {}, "chtab: graph line 2: too few lines"), (ValueError, FIRST, {"workers": 0}, "from 1 to 64"), (FileNotFoundError, "none.gr", {}, "none.gr"),
+        (chtab.ChtabError, "bad.gr", {"program": "no-program"}, "can't be run"),
+    ):
+        fault = raises(kind, lambda: chtab.Network.open(path, **{"program": PROGRAM, **more}), told=told)
+        assert getattr(fault, "status", 1) == 1
 
 
 def test_a_closed_pipe_is_silent():
@@ -184,18 +180,6 @@ def test_signs_of_life():
     os.close(slave)
     assert b"blocks: " in os.read(master, 10_000)
     os.close(master)
-
-
-def test_frames_and_features():
-    with chtab.Network.open(f"{COUNTRY}.gr", program=PROGRAM) as network:
-        nodes, metres = network.nearest_nodes(*zip(VADUZ, MALBUN))
-        assert nodes.tolist() == [72, network.nearest_nodes(*MALBUN)[0][0]] and metres.max() < 100
-        frame = network.frame(nodes, nodes)
-        assert isinstance(frame, pandas.DataFrame) and frame.loc[nodes[0], nodes[1]] == network.distances(nodes[:1], nodes[1:])[0]
-        routes = network.routes([nodes, nodes[::-1]])
-        assert routes.to_frame()["weight"].tolist() == [each.weight for each in routes]
-        features = routes.__geo_interface__["features"]
-        assert [len(each["geometry"]["coordinates"]) for each in features] == [len(each.nodes) for each in routes]
 
 
 def installed(name, has_program):

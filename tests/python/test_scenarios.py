@@ -214,7 +214,7 @@ NAN = float("nan")
     ({"closed": ["inn"]}, "closed", 0, "'inn' names no arc, as streets have no names here"),
     ({"closed": [0, "way/5"]}, "closed", 1, "nothing says which arcs are parts of way 5"),
     ({"closed": [("inn", "mill"), ("inn", "x"), 9]}, "closed", 1, "'x'"), ({"closed": [0, 5, ("x", "inn")]}, "closed", 1, "no row 5"),
-    ({"weights": [1, 2]}, "weights", None, "there are 5 rows"), ({"weights": [1, 2, 3, 4, -5]}, "weights", 4, "below 0"),
+    ({"weights": {1: 3, 0: 2.0**60}}, "weights", 1, "too large"), ({"weights": [1, 2]}, "weights", None, "there are 5 rows"), ({"weights": [1, 2, 3, 4, -5]}, "weights", 4, "below 0"),
     ({"weights": {0: 2.5, 1: NAN}}, "weights", 1, "nan is no weight"), ({"weights": {"inn": 3}}, "weights", 0, "names no arc"),
     ({"added": [("inn", "x", 3)]}, "added target", 0, "no node has the label 'x'"), ({"added": [("inn", "mill")]}, "added", None, "rows of"),
     ({"added": [("inn", "mill", -1)]}, "added weight", 0, "below 0"),
@@ -271,9 +271,6 @@ def test_a_change_that_fails_leaves_nothing():
         object.__setattr__(network._opened.setting, "program", str(program.absolute()))
         assert raises(chtab.ProgramFault, network.changed, None, [0], told="out of memory").status == 3
         assert left() == own and network.distances([("inn", "mill")]).tolist() == [2.0]
-
-
-# Columns of pandas.
 
 
 def test_columns_of_frames_go_by_their_index():

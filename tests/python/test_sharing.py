@@ -88,9 +88,6 @@ def network(request):
         yield NETWORK
 
 
-# Processes and threads.
-
-
 @pytest.mark.parametrize("way", WAYS)
 def test_pools_and_executors_ask(network, way):
     """Those that unpickle it, and those that have it by a fork after it was asked, while threads of this process ask too; these leave no descriptor."""
@@ -266,9 +263,6 @@ def test_threads_ask_while_it_is_closed():
         handle.close()
 
 
-# What breaks a question off.
-
-
 class Stopped(BaseException):
     """A thread is ended from outside."""
 
@@ -326,9 +320,6 @@ def test_what_is_broken_off_leaves_no_answer():
         assert wrong_answers(network, 5) == 0
         gc.collect()
         assert descriptors() <= held + 60, (descriptors(), held)
-
-
-# What is closed, pickled, dropped, or ends.
 
 
 def test_a_closed_handle_answers_nothing():

@@ -11,6 +11,7 @@ import warnings
 import pytest
 
 from helpers import minutes
+from helpers.columns import flows_owed
 from helpers.commands import raises
 from helpers.marks import needs
 from helpers.minutes import of_minutes
@@ -60,18 +61,6 @@ def owed_to(streets, ends, places):
     return scipy.sparse.csgraph.dijkstra(scipy.sparse.csr_array((weights, (tails, heads)), (nodes + len(places),) * 2))
 
 
-def flows_owed(streets, pairs, demand):
-    """By scipy's predecessors: how many take each row of the streets."""
-    graph = scipy.sparse.csr_array((streets.minutes, (streets["from"], streets["to"])), (SIDE * SIDE,) * 2)
-    _, before = scipy.sparse.csgraph.dijkstra(graph, return_predecessors=True)
-    row, owed = {pair: place for place, pair in enumerate(zip(streets["from"], streets["to"]))}, numpy.zeros(len(streets), int)
-    for (source, target), people in zip(pairs, demand):
-        while source != target:
-            owed[row[before[source, target], target]] += people
-            target = before[source, target]
-    return owed
-
-
 def test_a_study_of_three_scenarios():
     """Places are snapped once. In the town as it is, at the peak hour, with a closed street and with a new road: tables, catchments, what is within
     minutes, reach and flows are those of scipy."""
@@ -105,13 +94,11 @@ def test_a_study_of_three_scenarios():
                     reached = numpy.where(away[-10, :SIDE * SIDE] <= limit, away[-10, :SIDE * SIDE], NAN)
                     numpy.testing.assert_allclose(other.reach(shops[:1], within=limit), reached, **CLOSE)
                 trips = nodes[:50], nodes[50:][owed.argmin(axis=1)]
-                assert other.flows(*trips, places.people[:50].to_numpy()).tolist() == flows_owed(after, zip(*trips), places.people[:50]).tolist()
+                arcs, people = (after["from"], after["to"], after.minutes), places.people[:50].tolist()
+                assert other.flows(*trips, people).tolist() == flows_owed(SIDE * SIDE, *arcs, zip(*trips), people)[0]
                 by_pairs = pandas.Series(places.people[:50].to_numpy(), pandas.MultiIndex.from_arrays(trips)).groupby(level=[0, 1]).sum().unstack(fill_value=0)
-                assert other.flows_table(by_pairs).tolist() == other.flows(*trips, places.people[:50].to_numpy()).tolist()
+                assert other.flows_table(by_pairs).tolist() == other.flows(*trips, people).tolist()
         numpy.testing.assert_allclose(network.trip_table(homes, shops), owed_to(streets, ends, places)[-60:-10, -10:], **CLOSE)
-
-
-# Units.
 
 
 def test_answers_are_in_the_unit_of_the_weights():
@@ -175,9 +162,6 @@ def test_calls_of_the_last_version_go_on():
         assert [(each.category, each.filename) for each in caught] == [(FutureWarning, minutes.__file__)] * count
         assert network.table(["inn"], ["mill", "house"], within=wanted)[0, 0] == wanted, more
         network.close()
-
-
-# What no path leads to.
 
 
 def test_no_mean_is_over_minus_one():
@@ -289,9 +273,6 @@ def test_geodataframes_go_in_and_out():
     assert raises(chtab.DataFault, lambda: chtab.Network.from_geodataframe(lost, program=PROGRAM), told="geometry[1]").row == 1
 
 
-# Pictures.
-
-
 @pytest.fixture
 def of_tags():
     """A network whose nodes have names that are HTML."""
@@ -322,9 +303,6 @@ def test_maps_to_move(of_tags):
     for answer in of_tags[2:]:
         text = answer.explore().get_root().render()
         assert "&lt;script&gt;a" in text and "<script>a</script>" not in text.replace("\\u003c", "<").split("GeoJson")[0]
-
-
-# What callers give, and what they are told.
 
 
 def test_what_is_common_is_taken():

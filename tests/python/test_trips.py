@@ -189,25 +189,19 @@ def test_a_graph_that_was_changed_is_told():
         raises(chtab.ChtabError, routes.to_geojson, told="has changed since it was opened")
 
 
-def test_what_is_no_place_is_refused():
-    """NaN, degrees out of range, places that are too far, and two spots where reach begins at one."""
-    nan, north = float("nan"), [47.1410]
+def test_places_that_are_too_far_are_named():
+    """All of them; and reach starts at one spot, and has a limit as other calls do."""
     with chtab.Network.open(f"{COUNTRY}.gr", program=PROGRAM) as network:
-        for call in network.nearest_nodes, network.snap:
-            raises(ValueError, call, [9.5, nan], [47.1, 47.1], told="longitudes[1]: nan is not from -180 to 180 degrees")
-            raises(ValueError, call, [9.5], [nan], told="latitudes[0]: nan is not from -90 to 90 degrees")
-            raises(ValueError, call, [9.5], [91], told="latitudes[0]: 91 is not")
-            raises(ValueError, call, [181], [47], told="longitudes[0]: 181 is not")
-            raises(ValueError, call, [9.5, 9.5], [47], told="longitudes has 2 rows and latitudes has 1")
-        assert network.nearest_nodes(north, [9.5209], None)[1][0] > 5_000_000
-        fault = raises(chtab.TooFar, network.nearest_nodes, [9.5209, *north], [47.1410, 9.5209], 1_000, told="is 5,467 km from the nearest node")
-        assert list(fault.places) == [1] and fault.places[1] > 5_000_000
-        fault = raises(chtab.TooFar, network.snap, [*north, 9.5209, *north], [9.5209, 47.1410, 9.5209], told="from the nearest road")
-        assert list(fault.places) == [0, 2]
-        spots = network.snap(*zip(VADUZ, MALBUN))
-        raises(ValueError, network.isochrones, spots, [1000], told="one spot, not at 2")
-        raises(ValueError, network.reach, spots, told="one spot, not at 2")
-        raises(ValueError, network.isochrones, spots[:0], [1000], told="one spot, not at 0")
+        x, y = zip(VADUZ, VADUZ[::-1], MALBUN, VADUZ[::-1])
+        for call, what in (network.nearest_nodes, "node"), (network.snap, "road"):
+            fault = raises(chtab.TooFar, call, x, y, told=f"is 5,467 km from the nearest {what}")
+            assert list(fault.places) == [1, 3] and fault.places[3] > 5_000_000
+        spots = network.snap(x[::2], y[::2])
+        for within in -1, 2**60 + 1, math.nan:
+            raises(ValueError, network.reach, spots[:1], within, told="from 0 to 2^60")
+        for some, count in (spots, 2), (spots[:0], 0):
+            for call in lambda spot: network.isochrones(spot, [1000]), network.reach:
+                raises(ValueError, call, some, told=f"one spot, not at {count}")
 
 
 def test_reach_within_a_limit_leaves_out_nothing():
@@ -330,8 +324,9 @@ def same_trips(network, spots, ways, found, never):
     table, longer = network.trip_table(spots, spots).tolist(), 0
     pairs = [(start, end) for start in range(len(ways)) for end in range(len(ways)) if start != end]
     starts, ends = (spots[list(part)] for part in zip(*pairs))
+    following = [mapping.follow(found, each) for each in (set(), never)]
     for (start, end), weight, way in zip(pairs, network.trips(starts, ends).tolist(), network.trip_routes(starts, ends)):
-        plain, wanted = (mapping.trip(found, each, ways[start][0], ways[end][1]) for each in (set(), never))
+        plain, wanted = (mapping.trip(found, each, ways[start][0], ways[end][1]) for each in following)
         assert table[start][end] == weight == (-1 if way.weight is None else way.weight), (table[start][end], weight, way)
         assert weight < 0 if math.isinf(wanted) else abs(weight - wanted) <= 1.01, (weight, wanted, ways[start], ways[end])
         longer += wanted > plain + 2

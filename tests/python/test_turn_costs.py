@@ -4,15 +4,14 @@ worked by hand.
 """
 import bz2
 import collections
-import heapq
 import math
 import pathlib
 import random
 
-from helpers.maps import BLOCK, COUNTRY, ROAD, converted, osm, random_map, tool, town
+from helpers.maps import BLOCK, COUNTRY, ROAD, converted, first_nodes, osm, random_map, searched, tool, town
 from helpers.marks import needs
 from helpers.running import PROGRAM
-from oracles import turning
+from oracles import dijkstra, turning
 
 HALF = 0.5 + 1e-6
 # The roads of a crossing, as (longitude, latitude) in thousandths of a degree: in the west, the
@@ -45,20 +44,6 @@ class Made:
         ), kinds
         assert made.ways[roads:] == [0] * (len(made.arcs) - roads)
 
-    def distances(self, start):
-        """The least weights from a node where trips start to all nodes."""
-        ahead = collections.defaultdict(list)
-        for tail, head, weight in self.made.arcs:
-            ahead[tail].append((head, weight))
-        best, queue = {}, [(0, start)]
-        while queue:
-            weight, node = heapq.heappop(queue)
-            if best.setdefault(node, weight) == weight:
-                for head, more in ahead[node]:
-                    if head not in best:
-                        heapq.heappush(queue, (weight + more, head))
-        return best
-
 
 def compared(text, side="right", **choices):
     """Compares each arc of a map's graph with the other program; both."""
@@ -78,18 +63,12 @@ def compared(text, side="right", **choices):
 def same_trips(taken, wanted, starts):
     """Compares the trips from some nodes, which stand once, with a search from arc to arc."""
     named = collections.Counter(node[0] for node in {node for arc in wanted.arcs for node in arc[:2]})
-    number = {}
-    for place, name in enumerate(taken.made.names, 1):
-        number.setdefault(name, place)
-    ends, tried = dict(taken.made.ends), 0
+    starts, tried = [start for start in starts if named[start[0]] == 1], 0
+    trips = searched(taken.made, [int(start[0]) for start in starts])
     for start in starts:
-        if named[start[0]] > 1:
-            continue
-        best = taken.distances(number[int(start[0])])
         for end, weight in wanted.distances(start, taken.turns).items():
             if named[end[0]] == 1 and end != start:
-                goal = number[int(end[0])]
-                assert best[ends[goal]] == weight, (start, end)
+                assert trips[int(start[0]), int(end[0])] == weight, (start, end)
                 tried += 1
     return tried
 
@@ -119,19 +98,7 @@ def test_both_examples():
 def least(text, start, end, **choices):
     """The least weight from a node of the map to another."""
     made, _ = converted(text, turn_costs=True, **choices)
-    ends, numbers = dict(made.ends), {}
-    for place, name in enumerate(made.names, 1):
-        numbers.setdefault(name, place)
-    ahead = collections.defaultdict(list)
-    for tail, head, weight in made.arcs:
-        ahead[tail].append((head, weight))
-    best, queue = {}, [(0, numbers[start])]
-    while queue:
-        weight, node = heapq.heappop(queue)
-        if best.setdefault(node, weight) == weight:
-            for head, more in ahead[node]:
-                heapq.heappush(queue, (weight + more, head))
-    return best.get(ends[numbers[end]], math.inf)
+    return searched(made, [start]).get((start, end), math.inf)
 
 
 def roads(*outer, at=(), more=()):
@@ -202,25 +169,11 @@ def opened(text, **choices):
 def between_places(wanted, costs, is_open, start, end):
     """The least weight of a trip from the middle of one arc's road to that of another, from arc to
     arc; infinite where there is none. `is_open` says which arcs may be driven on."""
-    roads = collections.defaultdict(list)
-    for a, arc in enumerate(wanted.arcs):
-        if is_open(a):
-            roads[arc[4]].append(a)
-    queue = [(wanted.arcs[a][2] / 2, a) for a in roads[start]]
-    goal, best, ahead = {*roads[end]}, {}, collections.defaultdict(list)
-    found = [0.0] if start == end and goal else []
-    for (a, b), cost in costs.items():
-        ahead[a].append((b, cost))
-    heapq.heapify(queue)
-    while queue:
-        weight, a = heapq.heappop(queue)
-        if a not in best:
-            best[a] = weight
-            for b, cost in ahead[a]:
-                if is_open(b):
-                    found += [weight + cost + wanted.arcs[b][2] / 2] if b in goal else []
-                    heapq.heappush(queue, (weight + cost + wanted.arcs[b][2], b))
-    return min(found, default=math.inf)
+    following, arcs = wanted.following(costs, is_open), wanted.arcs
+    begun, goals = ([a for a, arc in enumerate(arcs) if arc[4] == road and is_open(a)] for road in (start, end))
+    best = dijkstra.reached([(arcs[a][2] / 2, a) for a in begun], following.__getitem__)
+    found = [weight + step - arcs[b][2] / 2 for a, weight in best.items() for b, step in following[a] if b in goals]
+    return min(found + [0.0] * bool(start == end and goals), default=math.inf)
 
 
 def middle(wanted, piece):
@@ -244,9 +197,7 @@ def test_places_and_scenarios():
     draw, tried, longer = random.Random("places"), 0, 0
     places = {piece: at for piece in range(len(wanted.lines)) if (at := middle(wanted, piece))}
     with network:
-        numbers = {}
-        for node, name in enumerate(map(int, open("costs.nodes")), 1):
-            numbers.setdefault(name, node)
+        numbers = first_nodes([*map(int, open("costs.nodes"))])
         for _ in range(9):
             name, shut = closing(draw, network, wanted, places, numbers)
             with network.changed(closed=[name] if isinstance(name, tuple | str) else name) as closed:

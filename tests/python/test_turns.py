@@ -1,16 +1,13 @@
 """Tests turns that maps restrict (osm_to_gr.py --turns): crossroads with each kind of restriction, those that are left out, where trips
-begin and end, the restrictions of Liechtenstein and others set there one by one, and random maps against the search from arc to arc of oracles/mapping.py.
+start and end; and Liechtenstein, with its restrictions and with others, and random maps against the search from arc to arc of oracles/mapping.py.
 """
 import bz2
-import collections
-import heapq
 import itertools
-import math
 import pathlib
 import random
 import re
 
-from helpers.maps import BLOCK, COUNTRY, ROAD, converted, noted, osm, random_map, tool
+from helpers.maps import BLOCK, COUNTRY, ROAD, converted, noted, osm, random_map, searched, tool
 from oracles import mapping
 from chtab_maps import profiles, restrictions
 
@@ -20,38 +17,6 @@ def crossroads(restriction, more=(), members=(("way", 1, "from"), ("node", 1, "v
     nodes = {1: (0, 0), 2: (-1, 0), 3: (0, 1), 4: (1, 0), 5: (0, -1)}
     relations = [(members, {"type": "restriction", "restriction": restriction} | dict(more))] if restriction else []
     return osm(nodes, [([1, 2], ROAD), ([1, 3], ROAD), ([4, 1], ROAD), ([5, 1], ROAD)], relations)
-
-
-def reached(ahead, start, end=None):
-    """The least weight from a node to each that is reached (Dijkstra 1959). `ahead` has (head, weight) of each node's arcs. With an end
-    nodes are left out that are farther than it."""
-    best, queue = {}, [(0, start)]
-    while queue and end not in best:
-        weight, node = heapq.heappop(queue)
-        if best.setdefault(node, weight) == weight:
-            for head, more in ahead[node]:
-                if head not in best:
-                    heapq.heappush(queue, (weight + more, head))
-    return best
-
-
-def rows(made):
-    ahead = collections.defaultdict(list)
-    for tail, head, weight in made.arcs:
-        ahead[tail].append((head, weight))
-    return ahead
-
-
-def searched(made):
-    """The least weight from each node, of the map's numbers, to each other one: from where trips begin to where they end."""
-    begins, ends, ahead = {}, dict(made.ends), rows(made)
-    for number, name in enumerate(made.names, 1):
-        begins.setdefault(name, number)
-    found = {}
-    for name, begin in begins.items():
-        best = reached(ahead, begin)
-        found |= {(name, other): best[ends.get(number, number)] for other, number in begins.items() if ends.get(number, number) in best}
-    return found
 
 
 def turns_forbidden(text, profile="car"):
@@ -177,148 +142,62 @@ def test_trips_begin_and_end_at_crossings_with_turns():
 
 
 def test_trips_on_random_maps():
-    """The least weight of each trip, which the other converter searches from arc to arc."""
-    draw, longer = random.Random("turns"), 0
+    """The least weight of each trip, which the other converter searches from arc to arc; for cars also where one turns back at dead ends alone."""
+    draw, longer, back = random.Random("turns"), 0, 0
     for _ in range(400):
         text = random_map(draw, 12)
         for profile in profiles.NAMES:
             choices = {"nodes": draw.choice(["crossings", "all"]), "metric": draw.choice(["time", "metres"])}
-            world = mapping.Map(text, profile)
-            found = mapping.arcs(world, choices["nodes"] == "all", choices["metric"] == "metres")
-            never = mapping.forbidden(world, found)
-            if never:
-                longer += same_trips(text, found, never, profile, choices)
-    assert longer > 60, longer
-
-
-def test_turning_back_at_dead_ends_alone():
-    """Trips on random maps where one turns back at dead ends alone; the option needs --turns, and the files say so."""
-    draw, longer = random.Random("dead ends"), 0
-    for _ in range(300):
-        text = random_map(draw, 16)
-        choices = {"nodes": draw.choice(["crossings", "all"]), "metric": draw.choice(["time", "metres"])}
-        world = mapping.Map(text, "car")
-        found = mapping.arcs(world, choices["nodes"] == "all", choices["metric"] == "metres")
-        never = mapping.forbidden(world, found)
-        never |= mapping.turned_back(found, never, everywhere=True)
-        if never:
-            longer += same_trips(text, found, never, "car", choices | {"turning_back": "dead-ends"})
-    assert longer > 20, longer
+            found, never = arcs_and_turns(text, profile, **choices)
+            longer += same_trips(text, found, never, profile, choices)
+            if profile == "car":
+                never |= mapping.turned_back(found, never, everywhere=True)
+                back += same_trips(text, found, never, profile, choices | {"turning_back": "dead-ends"})
+    assert longer > 60 and back > 20, (longer, back)
     pathlib.Path("back.osm").write_text(crossroads("no_left_turn"))
     tool("osm_to_gr", "--turning-back", "dead-ends", "back.osm", "back", status=2)
     tool("osm_to_gr", "--turns", "--turning-back", "dead-ends", "back.osm", "back")
     assert ", turning back at dead ends alone." in open("back.gr").readline()
 
 
-def same_trips(text, found, never, profile, choices):
-    """Compares the trips between all nodes that stand once but for turns; how many there are that a restriction makes longer."""
-    copies = {node[0] for arc in found for node in arc[:2] if node[1]}
-    trips = searched(converted(text, turns=True, profile=profile, **choices)[0])
-    longer = 0
-    for start in {arc[0] for arc in found}:
-        plain, wanted = (mapping.distances(found, each, start) for each in (set(), never))
+def arcs_and_turns(text, profile="car", nodes="crossings", metric="time"):
+    """The arcs of the other converter, and the pairs of them that may not follow on each other."""
+    world = mapping.Map(text, profile)
+    found = mapping.arcs(world, nodes == "all", metric == "metres")
+    return found, mapping.forbidden(world, found)
+
+
+def same_trips(text, found, never, profile="car", choices={}, starts=None):
+    """Compares the trips from some nodes, or all, that stand once but for turns; how many there are that a restriction makes longer."""
+    longer, copies = 0, {node[0] for arc in found for node in arc[:2] if node[1]}
+    if not never:
+        return 0
+    nodes = {arc[0] for arc in found} if starts is None else starts
+    trips = searched(converted(text, turns=True, profile=profile, **choices)[0], {int(node[0]) for node in nodes})
+    plain, turning = (mapping.follow(found, each) for each in (set(), never))
+    for start in nodes:
+        before, wanted = (mapping.distances(found, each, start) for each in (plain, turning))
         for end in {arc[1] for arc in found} | {start}:
-            if start[0] in copies or end[0] in copies:
-                continue
-            assert trips.get((int(start[0]), int(end[0]))) == wanted.get(end), (start, end, profile, choices, text)
-            longer += wanted.get(end) != plain.get(end)
+            if start[0] not in copies and end[0] not in copies:
+                assert trips.get((int(start[0]), int(end[0]))) == wanted.get(end), (start, end, profile, choices, text)
+                longer += wanted.get(end) != before.get(end)
     return longer
 
 
-def test_turns_of_liechtenstein():
-    """Each restriction of the example whose ways are in it changes the route from the one way over its node to the other, and no other."""
-    text = country()
-    world = mapping.Map(text, "car")
-    relations = [each for each in world.relations if world.tags(each).get("type") == "restriction"]
-    plain, _ = converted(text, nodes="all", part="largest")
-    made, report = converted(text, nodes="all", part="largest", turns=True)
-    assert (len(relations), report.total("turns"), len(made.ends)) == (2, 1, 1), (len(relations), report.counts["turns"], made.ends)
-    for relation in relations:
-        members = {each.get("role"): each.get("ref") for each in relation.findall("member")}
-        if all(any(way.get("id") == members[role] for way in world.ways) for role in ("from", "to")):
-            a_turn_is_longer(plain, made, world, members)
-
-
-def a_turn_is_longer(plain, made, world, members):
-    """Of the trips over a node from each neighbour to each other one just the one from way to way is longer with turns; without, it is as
-    long as both roads."""
-    named = [(plain.names[tail - 1], plain.names[head - 1], weight) for tail, head, weight in plain.arcs]
-    ins, outs = ([arc for arc in named if arc[end] == int(members["via"])] for end in (1, 0))
-    begin, end = ({int(each.get("ref")) for way in world.ways if way.get("id") == members[role] for each in way.findall("nd")}
-                  for role in ("from", "to"))
-    longer, trips = [], [trips_of(graph) for graph in (plain, made)]
-    for (start, _, one), (_, target, other) in itertools.product(ins, outs):
-        before, after = (least(start, target) for least in trips)
-        if before != after:
-            assert before == one + other and after > before and start in begin and target in end, (start, target, before, after)
-            longer.append((start, target))
-    assert len(longer) == 1, longer
-
-
-def trips_of(graph):
-    """The function that tells the least weight between two of the map's nodes, for trips that begin at the first node in the graph that
-    each has, and end where trips to it end; infinite where no walk leads there."""
-    ahead, numbers, ends = rows(graph), {}, dict(graph.ends)
-    for number, name in enumerate(graph.names, 1):
-        numbers.setdefault(name, number)
-
-    def least(start, end):
-        goal = ends.get(numbers[end], numbers[end])
-        return reached(ahead, numbers[start], goal).get(goal, math.inf)
-
-    return least
-
-
-def country():
-    return bz2.open(f"{COUNTRY}.osm.bz2", "rt").read()
-
-
-def turns_at_ends(text):
-    """The turns from the end of a way to the beginning of another: (way, node before, node of both, node after, way)."""
-    world = mapping.Map(text, "car")
-    ins, outs = collections.defaultdict(list), collections.defaultdict(list)
-    for way in world.ways:
-        along, against = world.speeds(world.tags(way))
-        nodes = [int(each.get("ref")) for each in way.findall("nd")]
-        for is_open, is_open_back, (end, inner) in ((along, against, nodes[:-3:-1]), (against, along, nodes[:2])):
-            if nodes.count(end) == 1:
-                ins[end] += [(way.get("id"), inner)] * bool(is_open)
-                outs[end] += [(inner, way.get("id"))] * bool(is_open_back)
-    return [(*one, node, *other) for node in ins for one in ins[node] for other in outs[node] if one[1] != other[0] and one[0] != other[1]]
-
-
-def test_turns_set_on_liechtenstein():
-    """Restrictions of all words set one by one at crossings drawn from the country: just the trips that they forbid are longer."""
-    text = re.sub("<relation.*</relation>", "", country(), flags=re.DOTALL)
-    plain, _ = converted(text, nodes="all")
-    once = {name for name, count in collections.Counter(plain.names).items() if count == 1}
-    least, turns = trips_of(plain), [turn for turn in turns_at_ends(text) if once.issuperset(turn[1:4])]
-    words = itertools.cycle(sorted(restrictions.FORBIDDING | restrictions.DEMANDING))
-    draw, tried = random.Random("turns of a country"), 0
-    while tried < 20:
-        turn = draw.choice(turns)
-        _, before, node, after, _ = turn
-        if least(before, after) == least(before, node) + least(node, after):
-            a_restriction_holds(text, plain, least, turn, next(words))
-            tried += 1
-
-
-def ways_over(graph, node):
-    """The arcs (from, to, weight) that come to a node of the map, and those that leave it."""
-    named = [(graph.names[tail - 1], graph.names[head - 1], weight) for tail, head, weight in graph.arcs]
-    return [arc for arc in named if arc[1] == node], [arc for arc in named if arc[0] == node]
-
-
-def a_restriction_holds(text, plain, least, turn, word):
-    """Of the trips over the node just those are longer that the word forbids and whose best way led over it."""
-    way, before, node, after, other = turn
-    members = f"<member type='way' ref='{way}' role='from'/><member type='node' ref='{node}' role='via'/><member type='way' ref='{other}' role='to'/>"
-    tags = f"<tag k='type' v='restriction'/><tag k='restriction' v='{word}'/>"
-    made, report = converted(text.replace("</osm>", f"<relation id='1'>{members}{tags}</relation></osm>"), nodes="all", turns=True)
-    assert report.total("turns") == 0 and node in {made.names[begin - 1] for begin, _ in made.ends}, (turn, word, report.counts["turns"])
-    with_turns = trips_of(made)
-    for (start, _, one), (_, end, more) in itertools.product(*ways_over(plain, node)):
-        if start != end:
-            is_forbidden = start == before and (end == after) == word.startswith("no_")
-            trips = least(start, end), with_turns(start, end)
-            assert (trips[0] < trips[1]) == (is_forbidden and trips[0] == one + more), (turn, word, start, end, trips)
+def test_trips_in_liechtenstein():
+    """With the two restrictions of the map, of which one is left out; and with 60 more at crossings that are drawn."""
+    text, draw = bz2.open(f"{COUNTRY}.osm.bz2", "rt").read(), random.Random("turns of a country")
+    found, never = arcs_and_turns(text, nodes="all")
+    made, report = converted(text, turns=True)
+    assert (text.count("<relation"), report.total("turns"), len(made.ends)) == (2, 1, 1)
+    [over] = {found[a][1] for a, b in never if found[a][4] != found[b][4]}
+    assert same_trips(text, found, never, choices={"nodes": "all"}, starts={arc[0] for arc in found if arc[1] == over}) > 0
+    words, more = itertools.cycle(sorted(restrictions.FORBIDDING | restrictions.DEMANDING)), ""
+    pairs = [(a, b) for a in draw.sample(found, 600) for b in found if a[1] == b[0] and a[3] != b[3]]
+    for number, (a, b) in enumerate(draw.sample(pairs, 60), 1):
+        members = ("way", a[3], "from"), ("node", a[1][0], "via"), ("way", b[3], "to")
+        parts = "".join(f"<member type='{kind}' ref='{ref}' role='{role}'/>" for kind, ref, role in members)
+        more += f"<relation id='{number}'>{parts}<tag k='type' v='restriction'/><tag k='restriction' v='{next(words)}'/></relation>"
+    text = re.sub("<relation.*</relation>", "", text, flags=re.DOTALL).replace("</osm>", f"{more}</osm>")
+    found, never = arcs_and_turns(text)
+    assert len(never) > 60 and same_trips(text, found, never, starts=draw.sample(sorted({found[a][0] for a, _ in never}), 20)) > 1_000
