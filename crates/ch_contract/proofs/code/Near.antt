@@ -9,7 +9,8 @@ use Rattle.std.proofs.lemmas.List.{length_push}
 use Rattle.std.proofs.lemmas.List.Elements.{Contains-append_cases, Contains-push_cases}
 use Rattle.ch_graph.specs.declared.limits.TheConstants.{MOST_WEIGHT}
 use Rattle.ch_graph.specs.Cost.{cost_sum}
-use Rattle.ch_graph.proofs.Lists.{contains_none, contains_cons, contains_head, contains_tail, pairs_head, pairs_tail, pairs_cons, pairs_append}
+use Rattle.ch_graph.proofs.Lists.{contains_none, contains_cons, contains_head, contains_tail}
+use Rattle.ch_graph.proofs.Lists.{pairs_head, pairs_tail, pairs_cons, pairs_append}
 use Rattle.ch_hierarchy.specs.declared.leg.Leg.{Leg}
 use Rattle.ch_hierarchy.specs.Rows.{IsRow}
 use Rattle.ch_hierarchy.proofs.theory.NoLeg.{no_leg}
@@ -211,8 +212,8 @@ counted_none n M v legs = record {
 
 -- one more leg is counted only if it comes from a near node
 pub counted_more : (n : ℕ) (M : Legs) (v : ℕ) (legs : List Leg) (i count more : ℕ) (wanted : Bool) → IsRow legs → i < length legs →
-    (IsTrue wanted → IsNear n M v (get_or legs i no_leg).node) → more ≤ (if wanted then count + 1 else count) → IsCounted n M v legs i count →
-    IsCounted n M v legs (i + 1) more
+    (IsTrue wanted → IsNear n M v (get_or legs i no_leg).node) → more ≤ (if wanted then count + 1 else count) →
+    IsCounted n M v legs i count → IsCounted n M v legs (i + 1) more
 counted_more n M v legs i count more false row lt near few c =
     let node : ℕ = (get_or legs i no_leg).node in
     let edge = c.edge.after i no_leg (omega arith) lt in
