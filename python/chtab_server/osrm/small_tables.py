@@ -68,16 +68,17 @@ def texts_of(numbers: Integers, digits: int, is_there: Marks) -> list[str]:
 def best_ways(trips: Trips, spots: Spots, count: int, has_metres: bool) -> Ways:
     """The best ways of tables of so many of the spots each."""
     outs, ins = (by_ends(column, count) for column in (spots.out_nodes, spots.in_nodes))
-    asked = list(zip(*(numpy.maximum(nodes, 1).reshape(len(nodes), -1) for nodes in (outs, ins))))
+    left, reached = (numpy.maximum(nodes, 1).reshape(len(nodes), -1) for nodes in (outs, ins))
     if not has_metres:
-        found = numpy.array([trips.engine.table(*pair) for pair in asked])
+        found = numpy.array([trips.engine.table(*pair) for pair in zip(left, reached)])
         best = totals_of(found, spots, outs, ins).min(axis=0)
         stay_on_roads(trips.roads, spots, best, None)
         metres = None
     else:
-        known = [trips.engine.table_sums(*pair, trips.roads.nanometres) for pair in asked]
-        found, sums = map(numpy.array, zip(*known))
-        totals, sums = totals_of(found, spots, outs, ins), by_ways(sums, outs, ins)
+        nanometres = trips.roads.nanometres
+        known = [trips.engine.table_sums(*pair, nanometres) for pair in zip(left, reached)]
+        found, along = (numpy.array([each[part] for each in known]) for part in (0, 1))
+        totals, sums = totals_of(found, spots, outs, ins), by_ways(along, outs, ins)
         best, lengths, ways = least_of(totals, sums)
         metres = metres_of(trips.roads, spots, ways, lengths * NANOMETRE, ins.shape[1], len(totals))
         stay_on_roads(trips.roads, spots, best, metres)
