@@ -16,3 +16,5 @@ pub mod End
 pub mod Spreads
 pub mod TightNodes
 pub mod WeighedPaths
+pub mod Passes
+pub mod Climbing

@@ -27,3 +27,4 @@ pub mod Checking
 pub mod Covering
 pub mod Finding
 pub mod Ways
+pub mod Climbs

@@ -37,6 +37,7 @@ pub use answer::query_job::QueryJob;
 pub use answer::{Answer, answer_all, answer_all_in};
 pub use checking::{check, check_alone, check_watched};
 pub use routes::Route;
+pub use routes::ancestors::route_by_ancestors;
 pub use routes::query::route;
 pub use routes::unpacking::PendingLeg;
 pub use routes::way::route_legs;

@@ -1,5 +1,6 @@
 //! Routes: two searches meet, the way leads back from there to both ends, and its legs are unpacked.
 
+pub(crate) mod ancestors;
 mod descent;
 mod legs;
 pub(crate) mod query;

@@ -1,5 +1,6 @@
 //! Searches by costs, from both sides of a query. Each is Dijkstra's algorithm, along legs to higher nodes.
 
+pub(crate) mod climbing;
 mod growing;
 mod labels;
 pub(crate) mod meeting;

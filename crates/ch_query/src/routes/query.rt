@@ -94,7 +94,7 @@ pub(crate) fn clean(up: &mut Search, down: &mut Search)
 }
 
 /// Returns the route over the node where the searches meet.
-fn route_over(
+pub(super) fn route_over(
     alloc: Global,
     hierarchy: &Hierarchy,
     up: &Search,

@@ -30,7 +30,7 @@ fn first(least: Option<(Cost, u32)>, cost: Cost, node: u32) -> Option<(Cost, u32
 }
 
 /// Returns the least sum after one side has settled `node`, of this rank, at `cost`.
-fn met(
+pub(super) fn met(
     hierarchy: &Hierarchy,
     there: &Search,
     node: u32,
