@@ -6,7 +6,7 @@ use Rattle.std.proofs.lemmas.Bool.{cases_eq}
 use Rattle.std.proofs.lemmas.List.{take_more, get_or-map, length-map}
 use Rattle.std.proofs.lemmas.List.Elements.{Contains-get_or}
 use Rattle.std.proofs.lemmas.Option.{none-some, same_Some}
-use Rattle.ch_graph.specs.declared.limits.TheConstants.{MOST_NODES, MOST_PATH_ARCS, MOST_WEIGHT}
+use Rattle.ch_graph.specs.declared.limits.TheConstants.{MOST_WEIGHT}
 use Rattle.ch_graph.specs.declared.cost.Cost.{Cost}
 use Rattle.ch_graph.specs.Cost.{cost_sum, no_cost, cost_at}
 use Rattle.ch_graph.proofs.CostOrder.{IsAtMost_refl}
@@ -48,7 +48,8 @@ module _ (H : LevelsAndLegs) (k : IsLevelled H) (y z : Search) (v : ℕ) (c : Co
   parents_then : z.labels.parents ≡ set y.labels.parents (rank_of H l.node) v → parents_of H z ≡ set (parents_of H y) l.node v
   parents_then e = ap (λ q. by_node H q 0) e ∙ by_node-set H k y.labels.parents 0 v l.node sizes.2 within
 
-  pub takes_by_node : Takes MOST_WEIGHT y.labels.costs y.labels.parents v c (leg_of_ranked (ranked_leg H l)) z.labels.costs z.labels.parents →
+  pub takes_by_node :
+      Takes MOST_WEIGHT y.labels.costs y.labels.parents v c (leg_of_ranked (ranked_leg H l)) z.labels.costs z.labels.parents →
       Takes MOST_WEIGHT (costs_of H y) (parents_of H y) v c l (costs_of H z) (parents_of H z)
   takes_by_node (inl (e, is, inl (early, g))) = inl (
     ap (λ q. by_node H q None) e,
@@ -396,7 +397,8 @@ module _ (H : LevelsAndLegs) (ranks : List ℕ) (k : ℕ) (x y : Search) (least 
     gains : (o : Option Cost) (b : Cost) → o ≡ Some b → IsLeastAfter o v c least least' →
         (f : Cost × ℕ) × (least' ≡ Some f) × MeetsFirst f (cost_sum c b, v)
     gains None b e after = absurd (none-some _ e)
-    gains (Some d) b e after = subst (λ r. (f : Cost × ℕ) × (least' ≡ Some f) × MeetsFirst f (cost_sum c r, v)) (same_Some _ _ e) after.covers_new
+    gains (Some d) b e after =
+        subst (λ r. (f : Cost × ℕ) × (least' ≡ Some f) × MeetsFirst f (cost_sum c r, v)) (same_Some _ _ e) after.covers_new
 
     -- the new sum is the sum of two paths
     found_at : (o : Option Cost) → cost_at (costs_of H y) v ≡ o → IsLeastAfter o v c least least' → IsFoundBy H x y least'
@@ -440,7 +442,8 @@ met_none H ranks x y = record {
 
 -- past the last node the searches have met
 pub met_all : (H : LevelsAndLegs) (ranks : List ℕ) (count : ℕ) (x y : Search) (least : Option (Cost × ℕ)) → length ranks ≤ count →
-    AreMetTo H ranks count x y least → IsUnqueued H ranks x → IsUnderway H x → IsUnderway H y → y.stalls ≡ true → y.most ≡ MOST_WEIGHT → AreMeeting H x y least
+    AreMetTo H ranks count x y least → IsUnqueued H ranks x → IsUnderway H x → IsUnderway H y → y.stalls ≡ true → y.most ≡ MOST_WEIGHT →
+    AreMeeting H x y least
 met_all H ranks count x y least whole m u here there stalls most = record {
   here = here;
   there = there;

@@ -1,7 +1,7 @@
 -- The tree of a search that stalls and has ended: which nodes it has, and that parents lead back as a route does.
-use Rattle.std.proofs.Common.{◌≡◌, ℕ, zero, suc, ◌+◌, ◌<◌, ◌≤◌, true, List, [], ◌∷◌, ◌++◌, length, take, get_or, set, All, Contains, Option}
+use Rattle.std.proofs.Common.{◌≡◌, ℕ, zero, suc, ◌+◌, ◌<◌, ◌≤◌, true, List, [], ◌∷◌, ◌++◌, length, take, get_or, All, Contains, Option}
 use Rattle.std.proofs.Common.{Some, None, refl, sym, ◌∙◌, ap, subst, arith, inl, inr}
-use Rattle.std.specs.Prelude.{◌⊎◌, ⊤, slice_index}
+use Rattle.std.specs.Prelude.{◌⊎◌, slice_index}
 use Rattle.std.proofs.lemmas.Bool.{cases_eq}
 use Rattle.std.proofs.lemmas.Option.{none-some, same_Some}
 use Rattle.std.proofs.lemmas.List.{take_more}
@@ -30,7 +30,6 @@ use Rattle.ch_query.specs.Meeting.{IsFresh}
 use Rattle.ch_query.specs.Parents.{IsParent, IsChosen}
 use Rattle.ch_query.specs.Routes.{DescentStep, IsDescent}
 use Rattle.ch_query.specs.Search.{IsEmpty, IsSettled, IsStalled}
-use Rattle.ch_query.specs.SearchSpace.{IsTight}
 use Rattle.ch_query.specs.SearchTree.{AreKnownNodes, AreUnstalled, FollowsParents, IsKnownNode, IsSearchTree}
 use Rattle.ch_query.specs.Underway.{back_of, idle_of, IsSameSearch, IsUnderway, KeepsSettled}
 use Rattle.ch_query.proofs.one_side.ByNode.{by_node-at, by_node-some}

@@ -1,7 +1,6 @@
 -- Both searches have no keys, so the least sum is the cost of the meet, or the two nodes never meet.
 use Rattle.std.proofs.Common.{subst, sym, ◌∙◌}
 use Rattle.ch_query.specs.Climbs.{AreAncestors}
-use Rattle.ch_query.specs.TwoSided.{IsPast}
 use Rattle.ch_query.proofs.two_sides.LeastMeeting.{meeting_between}
 use Rattle.ch_query.proofs.sides.climbing.meet_by_ancestors.Goals as goal
 

@@ -1,6 +1,6 @@
 -- Each turn takes the legs of one more ancestor, and after the last one nothing is left to settle.
-use Rattle.std.proofs.Common.{◌≡◌, ◌≤◌, ℕ, arith, length, subst, sym, ◌∙◌}
-use Rattle.ch_query.specs.Climbs.{AreAncestors, IsClimbing}
+use Rattle.std.proofs.Common.{subst, sym}
+use Rattle.ch_query.specs.Climbs.{AreAncestors}
 use Rattle.ch_query.proofs.one_side.Climbing.{climb_ends}
 use Rattle.ch_query.proofs.sides.search.Search.climb.Goals as goal
 

@@ -1,5 +1,5 @@
 -- The search ends with the tree of its source, and is clean again.
-use Rattle.std.proofs.Common.{sym, subst}
+use Rattle.std.proofs.Common.{subst}
 use Rattle.std.proofs.lemmas.Result.{on_ok_weaker}
 use Rattle.ch_query.specs.SearchTree.{IsSearchTree}
 use Rattle.ch_query.proofs.one_side.Spreads.{underway_room}

@@ -61,6 +61,6 @@ returns-in_default-clause-climbing c = climb_skips _ _ _ _ c.requires.climbing
 pub returns-clause-climbing : goal.returns-clause-climbing
 returns-clause-climbing c =
     let node = c.node_at-node.ensures in
-    climb_done _ _ _ _ _ _ _ _ node.node (sym node.rank)
+    climb_done c.args.hierarchy.now c.args.ancestors.now c.args.place c.node_at-node.result _ _ _ _ node.node (sym node.rank)
     c.loop-leg.invariant.same c.loop-leg.invariant.legs
     (read_all c.args.hierarchy.now _ _ _ (c.ranked_legs-leg-items.ensures.row _ node.node node.rank) c.loop-leg-test.false)
