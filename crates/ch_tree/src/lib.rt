@@ -7,11 +7,13 @@
 pub mod laws;
 mod parents;
 mod query;
+mod routes;
 mod scratch;
 mod spaces;
 mod sweep;
 
 pub use parents::{tree_for, tree_of};
+pub use routes::route;
 pub use scratch::{TreeScratch, distance};
 pub use spaces::{ranked_space, ranked_spaces};
 pub use sweep::{NEVER, up_costs};
