@@ -2,6 +2,10 @@
 ghost use Rattle.std.specs.Prelude.{◌≡◌, ◌<◌, [], length, All, IfErr, IfOk, None, OnOk, MatchOption, ⊤};
 ghost use Rattle.ch_graph.specs.Graph.{HasEnds};
 ghost use Rattle.ch_hierarchy.specs.Hierarchy.{nodes_of};
+ghost use Rattle.ch_hierarchy.specs.Paths.{NeverMeets};
+ghost use Rattle.ch_query.specs.Distance.{IsKeptForSome};
+ghost use Rattle.ch_query.specs.Routes.{IsRoute, IsRouteBy};
+ghost use Rattle.ch_tree.specs.Tree.{IsTree};
 ghost use Rattle.ch_engine.specs.Lines.{IsOfSome};
 ghost use Rattle.ch_text.specs.SaveText.{IsHierarchyText};
 ghost use Rattle.ch_engine.specs.Held.{only};
@@ -16,6 +20,7 @@ use crate::network::Network;
 use crate::opening::{opened, opened_like, opened_of_arrays, opened_quickly};
 use crate::words::{are_both_nodes, word_of, write_table};
 use ch_graph::limits::MOST_LISTED;
+use ch_hierarchy::Hierarchy;
 use ch_near::KeptTargets;
 use ch_query::{Route, Scratch, distance, route};
 use ch_table::table_alone;
@@ -317,7 +322,33 @@ impl Engine {
         ensures same { self.new ≡ self.old }
     {
         let hierarchy = self.network.hierarchy();
-        route(alloc, hierarchy, &mut self.scratch, source, target)
+        let tree = self.network.tree();
+        route_by(alloc, hierarchy, tree, &mut self.scratch, source, target)
+    }
+}
+
+/// Returns the route between two nodes, by the tree of the hierarchy if there is one.
+fn route_by(
+    alloc: Global,
+    hierarchy: &Hierarchy,
+    tree: Option<&[u32]>,
+    scratch: &mut Scratch,
+    source: u32,
+    target: u32,
+) -> Result<Option<Route>, AllocError>
+    requires kept { IsKeptForSome hierarchy.now }
+    requires tree { MatchOption tree ⊤ (λ parents. IsTree hierarchy.now parents.now) }
+    requires scratch { scratch.old ≡ nodes_of hierarchy.now }
+    requires source { source < nodes_of hierarchy.now }
+    requires target { target < nodes_of hierarchy.now }
+    ensures route { IfOk result (λ answer. MatchOption answer (NeverMeets hierarchy.now source target) (IsRoute hierarchy.now source target)) }
+    ensures walk { IfOk result (IsRouteBy hierarchy.now source target) }
+    ensures few { IfOk result (λ answer. MatchOption answer ⊤ (λ route. length route.arcs < nodes_of hierarchy.now)) }
+    ensures scratch { scratch.new ≡ scratch.old }
+{
+    match tree {
+        Some(parents) => ch_tree::route(alloc, hierarchy, parents, scratch, source, target),
+        None => route(alloc, hierarchy, scratch, source, target),
     }
 }
 

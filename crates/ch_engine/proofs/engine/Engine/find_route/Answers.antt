@@ -15,8 +15,8 @@ pub returns-clause-route : goal.returns-clause-route
 returns-clause-route c =
     let H = c.hierarchy-hierarchy.result.now in
     let same : H ≡ c.args.self.now.hierarchy = search rules in
-    subst (λ (G : LevelsAndLegs). IfOk c.route.result (IsFound G c.args.source c.args.target)) same
-    (found_if H c.args.source c.args.target c.route.result c.route.ensures.route c.route.ensures.walk c.route.ensures.few)
+    subst (λ (G : LevelsAndLegs). IfOk c.route_by.result (IsFound G c.args.source c.args.target)) same
+    (found_if H c.args.source c.args.target c.route_by.result c.route_by.ensures.route c.route_by.ensures.walk c.route_by.ensures.few)
 
 pub returns-clause-ends : goal.returns-clause-ends
 returns-clause-ends c =
@@ -26,7 +26,7 @@ returns-clause-ends c =
     let of : IsOfSome H v.1 = subst (λ (G : LevelsAndLegs). IsOfSome G v.1) (sym c.hierarchy-hierarchy.ensures.same)
     c.hierarchy-hierarchy.ensures.lines in
     subst (λ (G : LevelsAndLegs).
-    IfOk c.route.result (λ answer. MatchOption answer ⊤ (λ route. All (HasEnds (nodes_of G)) route.arcs))) same
+    IfOk c.route_by.result (λ answer. MatchOption answer ⊤ (λ route. All (HasEnds (nodes_of G)) route.arcs))) same
     (if_ok (IsRouteBy H c.args.source c.args.target)
-    (λ answer. MatchOption answer ⊤ (λ route. All (HasEnds (nodes_of H)) route.arcs)) c.route.result
-    (route_ends H v.1 of c.args.source c.args.target) c.route.ensures.walk)
+    (λ answer. MatchOption answer ⊤ (λ route. All (HasEnds (nodes_of H)) route.arcs)) c.route_by.result
+    (route_ends H v.1 of c.args.source c.args.target) c.route_by.ensures.walk)
