@@ -75,7 +75,8 @@ module _ (parents : List ℕ) (falls : AreFalling parents) (start place : ℕ) (
         (subst (IsAbove parents start) is are.here, omega arith)
   ]
 
-  whole : (r : ℕ) → IsAbove parents start (r + 1) → slice_index parents place < r + 1 → (i : ℕ) × (i < length more) × (slice_index more i ≡ r)
+  whole : (r : ℕ) → IsAbove parents start (r + 1) → slice_index parents place < r + 1 →
+      (i : ℕ) × (i < length more) × (slice_index more i ≡ r)
   whole r up past = elim (cases_lt place (r + 1)) [
     | inl before ↦
         let old = are.whole r up before in
@@ -118,6 +119,7 @@ tree_ancestors H k side parents t s s_low ranks are = record {
       let up = (are.sound among.0 among.2).0 in
       let at = subst (λ q. IsAbove parents (place_of H s) (q + 1)) among.3 up in
       let leg = t.legs side v l v_low has in
-      let found = are.whole (rank_of H l.node) (above_then parents (place_of H s) (place_of H v) (place_of H l.node) at leg) (omega arith) in
+      let above = above_then parents (place_of H s) (place_of H v) (place_of H l.node) at leg in
+      let found = are.whole (rank_of H l.node) above (omega arith) in
       (found.0, found.1, found.1, found.2);
 }
