@@ -1,4 +1,5 @@
 -- The lemmas on near rows: the first targets of a source, the sums that are offered to places, and rows from rank to rank.
+pub mod CellRows
 pub mod Distances
 pub mod Facing
 pub mod Filled

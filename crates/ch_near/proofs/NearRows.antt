@@ -1,6 +1,6 @@
 -- The row of a source: the least sums of its search space and the buckets, put in order and cut.
 use Rattle.std.proofs.Common.{◌≡◌, ℕ, ◌+◌, ◌<◌, ◌≤◌, List, [], length, Vec, get_or, Contains, Option}
-use Rattle.std.proofs.Common.{refl, sym, ◌∙◌, ap, subst, arith, inl, inr}
+use Rattle.std.proofs.Common.{◌⊎◌, refl, sym, ◌∙◌, ap, subst, arith, inl, inr}
 use Rattle.std.specs.Prelude.{◌≢◌, All, AllPairs, slice_index, slice_index_or}
 use Rattle.std.specs.List.{AllZip}
 use Rattle.std.proofs.lemmas.Bool.{cases_lt, cases_order}
@@ -18,6 +18,7 @@ use Rattle.ch_query.specs.Limits.{IsWithin}
 use Rattle.ch_query.specs.SearchSpace.{IsRankedSpace}
 use Rattle.ch_query.specs.SearchSpaceLaws.{IsSharedSum}
 use Rattle.ch_query.proofs.two_sides.SharedSums.{within_less}
+use Rattle.ch_near.specs.declared.offers.TheConstants.{UNOFFERED}
 use Rattle.ch_near.specs.First.{IsNearer, IsSortedAndCut}
 use Rattle.ch_near.specs.Near.{IsDistanceTo, IsNearRow}
 use Rattle.ch_near.specs.Buckets.{AreRanksApart, HoldNearest, IsBucketAmong}
@@ -113,20 +114,21 @@ module _ (H : LevelsAndLegs) (limit count : Option ℕ) (targets : List ℕ) (bu
         (hold.held.each rank lt).order (λ f c. entry_at rank f lt c)
         (λ x y j a b. rank_once H Down limit (slice_index targets j) (down j) (down_at j a.0) rank x y a.1 b.1)
 
-    -- the least sums, moved into a row that is put in order and cut
-    pub near_row : (fresh least : List ℕ) (row result : List (ℕ × ℕ)) → AreUnoffered (length targets) fresh →
-        AreOffered (IsSumOf bound ups buckets) fresh least → AreTaken least row → IsSortedAndCut count row result →
-        IsNearRow H bound count targets s result
-    near_row =
-        row_of_offers (length targets) count (IsSumOf bound ups buckets) (IsDistanceTo H bound targets s)
-        (λ e sum. ((sum_shared e sum).0, let most = sum_weighs e sum in omega arith))
-        (λ x y j a b. one_distance H bound s (slice_index targets j) x y a.1 b.1)
-        (λ e offer.
+    pub sum_among : (e : ℕ × ℕ) → IsSumOf bound ups buckets e → (e.1 < length targets) × (e.0 < UNOFFERED)
+    sum_among e sum = ((sum_shared e sum).0, let most = sum_weighs e sum in omega arith)
+
+    -- a sum is at least a distance
+    pub sum_below : (e : ℕ × ℕ) → IsSumOf bound ups buckets e → (x : ℕ) × IsDistanceTo H bound targets s (x, e.1) × (x ≤ e.0)
+    sum_below e offer =
         let sum = sum_shared e offer in
         let r = shared_distance H hold.kept bound limit lesser s (slice_index targets e.1) ups (down e.1) up (down_at e.1 sum.0)
         e.0 sum.1 sum.2 in
-        (r.0, (sum.0, r.1), r.2))
-        (λ e d.
+        (r.0, (sum.0, r.1), r.2)
+
+    -- a distance is a sum, or a bucket leaves its place out
+    pub distance_reached : (e : ℕ × ℕ) → IsDistanceTo H bound targets s e →
+        IsSumOf bound ups buckets e ⊎ IsOutdone count (IsSumOf bound ups buckets) e
+    distance_reached e d =
         let r = distance_shared H hold.kept bound limit lesser s (slice_index targets e.1) ups (down e.1) up (down_at e.1 d.0) e.0 d.1 in
         let sum = r.0 in
         let from = up.sound sum.0 sum.1 sum.3 in
@@ -140,7 +142,15 @@ module _ (H : LevelsAndLegs) (limit count : Option ℕ) (targets : List ℕ) (bu
               (outdone_by count (IsSumOf bound ups buckets) (slice_index_or buckets sum.0 []) sum.1 sum.2 e.1
               (bucket_apart sum.0 rank) full
               (λ f has le. (sum.0, sum.1, sum.3, (f.0, has, refl, within_less bound (sum.1 + f.0) (sum.1 + sum.2) le low)))))
-        ])
+        ]
+
+    -- the least sums, moved into a row that is put in order and cut
+    pub near_row : (fresh least : List ℕ) (row result : List (ℕ × ℕ)) → AreUnoffered (length targets) fresh →
+        AreOffered (IsSumOf bound ups buckets) fresh least → AreTaken least row → IsSortedAndCut count row result →
+        IsNearRow H bound count targets s result
+    near_row =
+        row_of_offers (length targets) count (IsSumOf bound ups buckets) (IsDistanceTo H bound targets s) sum_among
+        (λ x y j a b. one_distance H bound s (slice_index targets j) x y a.1 b.1) sum_below distance_reached
 
 -- the spaces that were found, as vectors
 module _ (H : LevelsAndLegs) (limit : Option ℕ) (targets : List ℕ) (spaces : List (Vec (ℕ × ℕ) Global))

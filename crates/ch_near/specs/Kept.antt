@@ -1,7 +1,9 @@
 -- Targets that are kept for one caller.
 use Rattle.std.specs.Prelude.{◌≡◌, ℕ, List, length, MatchOption, ⊤}
 use Rattle.ch_hierarchy.specs.Hierarchy.{LevelsAndLegs, nodes_of}
+use Rattle.ch_query.specs.Limits.{IsWithin}
 use Rattle.ch_near.specs.declared.kept.KeptTargets.{KeptTargets}
+use Rattle.ch_near.specs.Cells.{AreCells}
 use Rattle.ch_near.specs.Direction.{facing}
 use Rattle.ch_near.specs.Near.{IsNearRow}
 use Rattle.ch_near.specs.Offers.{AreUnoffered}
@@ -21,3 +23,11 @@ pub record AreKeptIn (H : LevelsAndLegs) (kept : KeptTargets) : Type 0 where
 -- the row of a source, in this hierarchy
 abbrev pub IsRowOf : LevelsAndLegs → Asked → ℕ → List (ℕ × ℕ) → Type 0
 IsRowOf H asked s row = IsNearRow (facing asked.direction H) asked.limit asked.count asked.targets s row
+
+-- no row leaves a target out because of their number
+abbrev pub IsWhole : Asked → Type 0
+IsWhole asked = IsWithin asked.count (length asked.targets)
+
+-- the cells of a source, in this hierarchy
+abbrev pub AreCellsOf : LevelsAndLegs → Asked → ℕ → List ℕ → Type 0
+AreCellsOf H asked s words = AreCells (wanted_in H asked) s words

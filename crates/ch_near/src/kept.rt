@@ -1,8 +1,8 @@
 //! Targets that are kept for one caller, who asks alone.
-ghost use Rattle.std.specs.Prelude.{◌≡◌, ◌≢◌, ◌<◌, ◌≤◌, None, length, All, IfOk, OnOk};
+ghost use Rattle.std.specs.Prelude.{◌≡◌, ◌≢◌, ◌↔◌, ◌<◌, ◌≤◌, None, length, All, IfOk, IsTrue, OnOk};
 ghost use Rattle.ch_graph.specs.declared.limits.TheConstants.{MOST_LISTED};
 ghost use Rattle.ch_hierarchy.specs.Hierarchy.{nodes_of};
-ghost use Rattle.ch_near.specs.Kept.{AreKeptIn, IsRowOf, asked_by};
+ghost use Rattle.ch_near.specs.Kept.{AreCellsOf, AreKeptIn, IsRowOf, IsWhole, asked_by};
 ghost use Rattle.ch_query.specs.Distance.{IsKeptForSome};
 
 use crate::direction::Direction;
@@ -125,6 +125,49 @@ impl KeptTargets {
             self.room = None;
         }
         written
+    }
+
+    /// Whether no row leaves a target out because of their number.
+    pub fn is_whole(&self) -> bool
+        ensures { IsTrue result ↔ IsWhole (asked_by self.now) }
+    {
+        match self.searched.count {
+            Some(most) => self.searched.targets.len() <= most as usize,
+            None => true,
+        }
+    }
+
+    /// Writes the cells of a source by a search: for each target, in the order of the list, its distance, or `u64::MAX`
+    /// if there is none within the limit. It is a row that is neither sorted nor cut.
+    ///
+    /// # Errors
+    /// `AllocError` where there is no memory. What is asked for next is answered as before.
+    pub fn write_cells(
+        &mut self,
+        alloc: Global,
+        hierarchy: &Hierarchy,
+        source: u32,
+        cells: &mut Vec<u64>,
+    ) -> Result<(), AllocError>
+        requires kept { AreKeptIn hierarchy.now self.old }
+        requires whole { IsWhole (asked_by self.old) }
+        requires source { source < nodes_of hierarchy.now }
+        ensures cells { OnOk result (AreCellsOf hierarchy.now (asked_by self.old) source cells.new.items) }
+        ensures kept { AreKeptIn hierarchy.now self.new }
+        ensures asked { asked_by self.new ≡ asked_by self.old }
+    {
+        self.need_room(alloc, hierarchy)?;
+        let nearest = Nearest {
+            hierarchy,
+            searched: &self.searched,
+        };
+        let Some(mut room) = self.room.take() else {
+            unreachable!()
+        };
+        // A search without memory may leave offers in the room, which is dropped then.
+        nearest.write_cells(&mut room, source, cells)?;
+        self.room = Some(room);
+        Ok(())
     }
 
     /// Makes the room of a search, if there is none.

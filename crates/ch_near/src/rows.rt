@@ -1,6 +1,8 @@
 //! The rows of sources by searches, one from each source.
 ghost use Rattle.std.specs.Prelude.{◌≡◌, ◌<◌, ◌≤◌, ℕ, true, Some, length, IfOk, OnOk};
 ghost use Rattle.ch_hierarchy.specs.Hierarchy.{nodes_of};
+ghost use Rattle.ch_near.specs.Cells.{AreCells, AreWhole};
+ghost use Rattle.ch_near.specs.LeastSums.{AreLeastSums};
 ghost use Rattle.ch_near.specs.Near.{IsNearRow};
 ghost use Rattle.ch_near.specs.Offers.{AreUnoffered};
 ghost use Rattle.ch_query.specs.Limits.{IsWithin};
@@ -35,6 +37,41 @@ impl<'a> Model for Nearest<'a> {
 }
 
 impl<'a> Nearest<'a> {
+    /// Offers to each place the sums of the source's search space and the buckets, within a bound that is at most the limit.
+    fn offer_sums(
+        &self,
+        room: &mut NearRoom,
+        source: u32,
+        bound: Option<u64>,
+    ) -> Result<(), AllocError>
+        requires source { source < nodes_of self.now.hierarchy }
+        requires bound { (x : ℕ) → IsWithin bound x → IsWithin self.now.limit x }
+        requires scratch { room.old.scratch ≡ nodes_of self.now.hierarchy }
+        requires offers { AreUnoffered (length self.now.targets) room.old.offers }
+        ensures sums { OnOk result (AreLeastSums self.now bound source room.new.offers) }
+        ensures scratch { OnOk result (room.new.scratch ≡ nodes_of self.now.hierarchy) }
+    {
+        let NearRoom {
+            scratch,
+            offers,
+            ..
+        } = room;
+        let start = Start {
+            source,
+            side: self.searched.direction.side(),
+            within: bound,
+        };
+        lower_by_search(
+            self.hierarchy,
+            scratch,
+            start,
+            &SumsWithin { limit: bound },
+            &self.searched.buckets,
+            offers,
+        )?;
+        Ok(())
+    }
+
     /// Makes the row of a source within a bound that is at most the limit.
     fn fill(
         &self,
@@ -51,25 +88,8 @@ impl<'a> Nearest<'a> {
         ensures scratch { OnOk result (room.new.scratch ≡ nodes_of self.now.hierarchy) }
         ensures offers { OnOk result (AreUnoffered (length self.now.targets) room.new.offers) }
     {
-        let NearRoom {
-            scratch,
-            offers,
-            row,
-            ..
-        } = room;
-        let start = Start {
-            source,
-            side: self.searched.direction.side(),
-            within: bound,
-        };
-        lower_by_search(
-            self.hierarchy,
-            scratch,
-            start,
-            &SumsWithin { limit: bound },
-            &self.searched.buckets,
-            offers,
-        )?;
+        self.offer_sums(room, source, bound)?;
+        let NearRoom { offers, row, .. } = room;
         offers.take(row)?;
         sort_and_cut(row, self.searched.count);
         Ok(())
@@ -121,6 +141,34 @@ impl<'a> Nearest<'a> {
         row.clear();
         row.extend_from_slice(&room.row)?;
         room.guess_by(self.searched.count);
+        Ok(())
+    }
+
+    /// Writes the cells of a source, within the limit of the search from the targets.
+    pub(crate) fn write_cells(
+        &self,
+        room: &mut NearRoom,
+        source: u32,
+        cells: &mut Vec<u64>,
+    ) -> Result<(), AllocError>
+        requires whole { AreWhole self.now }
+        requires source { source < nodes_of self.now.hierarchy }
+        requires scratch { room.old.scratch ≡ nodes_of self.now.hierarchy }
+        requires offers { AreUnoffered (length self.now.targets) room.old.offers }
+        ensures cells { OnOk result (AreCells self.now source cells.new.items) }
+        ensures scratch { OnOk result (room.new.scratch ≡ nodes_of self.now.hierarchy) }
+        ensures offers { OnOk result (AreUnoffered (length self.now.targets) room.new.offers) }
+    {
+        self.offer_sums(room, source, self.searched.within)?;
+        let NearRoom {
+            offers,
+            row: rest,
+            ..
+        } = room;
+        cells.clear();
+        cells.extend_from_slice(offers.words())?;
+        // No offer is left for the next source.
+        offers.take(rest)?;
         Ok(())
     }
 }
