@@ -16,6 +16,7 @@ mod Rows
 mod SameEnds
 mod SeenLines
 pub mod NearRows
+mod NearTable
 mod MeetingTrees
 mod PathTrees
 mod SumMeets

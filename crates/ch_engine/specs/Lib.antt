@@ -4,6 +4,7 @@ pub mod Held
 pub mod LegSums
 pub mod Lines
 pub mod NearRows
+pub mod NearTable
 pub mod Refusals
 pub mod Routes
 pub mod RouteSums

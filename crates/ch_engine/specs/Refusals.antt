@@ -10,6 +10,7 @@ use Rattle.ch_read.specs.Names.{NamesGraph, NamesSaved}
 use Rattle.ch_engine.specs.Opened.{IsOfArrays}
 use Rattle.ch_engine.specs.declared.fault.OpenError.{OpenError}
 use Rattle.ch_engine.specs.declared.fault.Refusal.{Refusal}
+use Rattle.ch_engine.specs.NearTable.{KeepsAll, places_of}
 use Rattle.ch_near.specs.Searched.{Asked}
 
 -- the error is true of the bytes of a graph and of a saved hierarchy
@@ -241,3 +242,16 @@ IsRefusalOfSums n near sources values limits sums Refusal.Lengths = IsSome near
     × (HasValues near values × (sums ≡ length sources * limits) → ⊥)
 IsRefusalOfSums n near sources values limits sums Refusal.TooLarge = ⊥
 IsRefusalOfSums n near sources values limits sums Refusal.NoPlaces = near ≡ None
+
+-- rows of a table over the kept places can be asked for: a row may have all places, and each cell has room
+abbrev pub AreCellSources : ℕ → Option Asked → List ℕ → ℕ → Type 0
+AreCellSources n near sources cells = KeepsAll near × (cells ≡ length sources * places_of near) × AreNodes n sources
+
+-- the reason for refusing such rows. Places come before lengths, and lengths before nodes
+abbrev pub IsRefusalOfCells : ℕ → Option Asked → List ℕ → ℕ → Refusal → Type 0
+IsRefusalOfCells n near sources cells Refusal.NoMemory = ⊥
+IsRefusalOfCells n near sources cells Refusal.NodeRange = KeepsAll near × (cells ≡ length sources * places_of near)
+    × (AreNodes n sources → ⊥)
+IsRefusalOfCells n near sources cells Refusal.Lengths = KeepsAll near × (cells ≡ length sources * places_of near → ⊥)
+IsRefusalOfCells n near sources cells Refusal.TooLarge = ⊥
+IsRefusalOfCells n near sources cells Refusal.NoPlaces = KeepsAll near → ⊥

@@ -1,12 +1,14 @@
 //! Near rows of an engine, over the places that it keeps.
-ghost use Rattle.std.specs.Prelude.{◌≡◌, ◌+◌, ◌<◌, ◌≤◌, ℕ, length, slice_index, IfErr, IfOk, OnOk, IsSome};
+ghost use Rattle.std.specs.Prelude.{◌≡◌, ◌*◌, ◌+◌, ◌<◌, ◌≤◌, ℕ, length, slice_index, IfErr, IfOk, OnOk, IsSome};
 ghost use Rattle.ch_hierarchy.specs.Hierarchy.{nodes_of};
 ghost use Rattle.ch_engine.specs.Held.{with_places};
 ghost use Rattle.ch_engine.specs.NearRows.{AreRowsWritten, IsKeptRow, StandsAt, StaysFrom, begin_of};
-ghost use Rattle.ch_engine.specs.Refusals.{AreNodes, ArePlaces, AreRowSources, IsRefusalOfPlaces, IsRefusalOfRows, IsRefusalOfSweep};
+ghost use Rattle.ch_engine.specs.NearTable.{AreCellsWritten, AreKeptCells, KeepsAll, places_of};
+ghost use Rattle.ch_engine.specs.Refusals.{AreCellSources, AreNodes, ArePlaces, AreRowSources, IsRefusalOfCells, IsRefusalOfPlaces, IsRefusalOfRows, IsRefusalOfSweep};
 
 use crate::engine::Engine;
 use crate::fault::Refusal;
+use crate::sums::write_found;
 use crate::words::are_nodes;
 use crate::written::{End, Written};
 use ch_graph::limits::MOST_LISTED;
@@ -148,6 +150,83 @@ impl Engine {
         let hierarchy = self.network.hierarchy();
         match &mut self.kept {
             Some(kept) => kept.row(alloc, hierarchy, source, row),
+            None => Ok(()),
+        }
+    }
+
+    /// Writes rows of a table, one after the other: for each source the distance of each kept place, in their order, as
+    /// [`Engine::table`] writes it. It ends before the first row for which there is no memory.
+    ///
+    /// # Errors
+    /// `NoPlaces` if no places are kept, or fewer than all for a row, otherwise `Lengths` if the lengths do not fit,
+    /// otherwise `NodeRange` if a number is no node. Then nothing is written.
+    pub fn near_table(
+        &mut self,
+        alloc: Global,
+        sources: &[u32],
+        cells: &mut [u64],
+    ) -> Result<Written, Refusal>
+        ensures written { IfOk result (AreCellsWritten self.old sources.now cells.new) }
+        ensures behind { IfOk result (λ written. StaysFrom (written.count * places_of self.old.near) cells.old cells.new) }
+        ensures fit { OnOk result (AreCellSources (nodes_of self.old.hierarchy) self.old.near sources.now (length cells.old)) }
+        ensures refused { IfErr result (λ refusal. (cells.new ≡ cells.old) × IsRefusalOfCells (nodes_of self.old.hierarchy) self.old.near sources.now (length cells.old) refusal) }
+        ensures same { self.new ≡ self.old }
+    {
+        let Some(kept) = &self.kept else {
+            return Err(Refusal::NoPlaces);
+        };
+        if !kept.is_whole() {
+            return Err(Refusal::NoPlaces);
+        }
+        if sources.len().checked_mul(self.places) != Some(cells.len()) {
+            return Err(Refusal::Lengths);
+        }
+        if !are_nodes(sources, self.nodes()) {
+            return Err(Refusal::NodeRange);
+        }
+        Ok(self.write_cells(alloc, sources, cells))
+    }
+
+    fn write_cells(&mut self, alloc: Global, sources: &[u32], cells: &mut [u64]) -> Written
+        requires whole { KeepsAll self.old.near }
+        requires room { length cells.old ≡ length sources.now * places_of self.old.near }
+        requires sources { AreNodes (nodes_of self.old.hierarchy) sources.now }
+        ensures written { AreCellsWritten self.old sources.now cells.new result }
+        ensures behind { StaysFrom (result.count * places_of self.old.near) cells.old cells.new }
+        ensures same { self.new ≡ self.old }
+    {
+        let mut row = Vec::new(alloc);
+        let mut begin = 0;
+        for i in 0..sources.len() {
+            let Ok(()) = self.near_cells(alloc, sources[i], &mut row) else {
+                return Written {
+                    count: i as u64,
+                    end: End::NoMemory,
+                };
+            };
+            begin = write_found(&row, begin, cells);
+        }
+        Written {
+            count: sources.len() as u64,
+            end: End::All,
+        }
+    }
+
+    /// Makes the cells of a source, if places are kept.
+    fn near_cells(
+        &mut self,
+        alloc: Global,
+        source: u32,
+        row: &mut Vec<u64>,
+    ) -> Result<(), AllocError>
+        requires whole { KeepsAll self.old.near }
+        requires source { source < nodes_of self.old.hierarchy }
+        ensures row { OnOk result (AreKeptCells self.old source row.new.items) }
+        ensures same { self.new ≡ self.old }
+    {
+        let hierarchy = self.network.hierarchy();
+        match &mut self.kept {
+            Some(kept) => kept.write_cells(alloc, hierarchy, source, row),
             None => Ok(()),
         }
     }

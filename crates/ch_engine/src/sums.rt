@@ -136,8 +136,8 @@ fn share_of(values: &[u64], limit: u64, pair: (u64, u32)) -> u64
     }
 }
 
-/// Writes the sums of a row from the place `begin` on, and returns where they end.
-fn write_found(found: &[u64], begin: usize, sums: &mut [u64]) -> usize
+/// Writes the sums or cells of a row from the place `begin` on, and returns where they end.
+pub(crate) fn write_found(found: &[u64], begin: usize, sums: &mut [u64]) -> usize
     requires { begin + length found.now ≤ length sums.old }
     ensures end { result ≡ begin + length found.now }
     ensures holds { HoldsFrom begin found.now sums.new }
