@@ -363,6 +363,16 @@ uint32_t chtab_near_sums(chtab *handle, const uint32_t *sources, size_t sources_
                          size_t values_len, const uint64_t *limits, size_t limits_len, uint64_t *rows, uint64_t *sums,
                          size_t sums_len);
 
+/* Writes rows of a table over the places, one after the other, and the number of rows to `rows`. cells[i * n + j] is the distance
+ * with sources[i] of place j, in the order and the direction of chtab_near_places, which was given n places. It is
+ * CHTAB_NO_DISTANCE if there is no walk, or if the distance is above the limit of that call. cells_len is sources_len times n.
+ * The call takes the time of one search for each source, also after chtab_near_sweep. Thus a large table takes one search for
+ * each place and one for each source, in as many calls as you like.
+ * Errors: CHTAB_CLOSED; CHTAB_NO_PLACES, also if the `count` of chtab_near_places is below n; CHTAB_LENGTHS, CHTAB_NODE_RANGE.
+ * With CHTAB_NO_MEMORY the first rows are written, and `rows` is their number. Ask for the other sources in a further call. */
+uint32_t chtab_near_table(chtab *handle, const uint32_t *sources, size_t sources_len, uint64_t *rows, uint64_t *cells,
+                          size_t cells_len);
+
 /* Returns the text of a status, for every number. The text stays valid. */
 CHTAB_INLINE const char *chtab_strerror(uint32_t status) {
     switch (status) {

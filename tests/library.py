@@ -279,6 +279,24 @@ def refuse_large_sums(tally, library):
     library.close(handle)
 
 
+def refuse_cells(tally, library):
+    """Cells of kept places: places of which a row may leave some out, lengths that do not fit, and nodes are refused in this order."""
+    status, handle, _ = library.open(LINE, OF_LINE)
+    for places, count, sources, room, name in (
+        (None, 0, [0], 0, "NO_PLACES"), ([2, 0], 1, [9], 1, "NO_PLACES"), ([2, 0], 2, [9], 1, "LENGTHS"), ([2, 0], 2, [3], 2, "NODE_RANGE"),
+        ([2, 0], 2, [], 1, "LENGTHS"), ([2, 0], 2, [], 0, "OK"), ([], 0, [0, 1], 0, "OK"), ([], 0, [0], 1, "LENGTHS"),
+    ):
+        if places is not None:
+            tally.expect(library.near_places(handle, places, count=count) == 0, "places of cells")
+        told, rows = library.near_table(handle, sources, room), 7 if STATUS[name] else len(sources)
+        tally.expect(told == (STATUS[name], rows, [7] * room), f"cells {places} {count} {sources} {room}: {told}")
+    for is_from, limit, owed in (0, NO_DISTANCE, [9, 0, 9]), (0, 8, [NO_DISTANCE, 0, NO_DISTANCE]), (1, 9, [NO_DISTANCE, 0, NO_DISTANCE]):
+        tally.expect(library.near_places(handle, [2, 0, 2], limit, 3, is_from) == 0, "places that repeat")
+        tally.expect(library.near_table(handle, [0], 3) == (0, 1, owed), f"cells within {limit}")
+    tally.expect(library.near_table(Handle(), [0], 1) == (STATUS["CLOSED"], 7, [7]), "cells of a closed handle")
+    library.close(handle)
+
+
 def refuse_large_route_sums(tally, library):
     """A sum of 2^64 or more along a route ends the call before its pair. One less is given. Lengths come before nodes."""
     status, handle, _ = library.open(LINE, OF_LINE)
@@ -482,6 +500,7 @@ def main():
     ask_too_much(tally, library)
     tell_faults(tally, library)
     refuse_large_sums(tally, library)
+    refuse_cells(tally, library)
     refuse_large_route_sums(tally, library)
     refuse_large_table_sums(tally, library)
     refuse_large_flows(tally, library)

@@ -197,8 +197,14 @@ def compare_near(tally, folder, library, graph, hierarchy):
     library.close(handle)
 
 
+def word_within(away, node, most):
+    """The word of a node: its distance if that is at most `most`, or the one for none."""
+    weight = away.get(node + 1, NO_DISTANCE)
+    return weight if weight <= most else NO_DISTANCE
+
+
 def compare_sums(tally, library, graph, hierarchy):
-    """Sums over near rows are those of Dijkstra's algorithm: of some sources by searches, and of all nodes after the sweep."""
+    """Sums over near rows, and cells of kept places, are those of Dijkstra's algorithm: of some sources by searches, and of all nodes after the sweep."""
     count, arcs = graph_of(graph)
     draw = random.Random(f"library sums {graph.name}")
     status, handle, _ = library.open(graph.read_bytes(), hierarchy.read_bytes())
@@ -214,6 +220,8 @@ def compare_sums(tally, library, graph, hierarchy):
             if sources is not some:
                 tally.expect(library.near_sweep(handle) == 0, f"{graph.name}: the sweep of sums")
             tally.expect(library.near_sums(handle, sources, values, limits) == (0, len(sources), owed), f"{graph.name}: sums within {most} of {len(sources)} nodes")
+            cells = [word_within(row, source, most) for source in sources for row in away]
+            tally.expect(library.near_table(handle, sources, len(cells)) == (0, len(sources), cells), f"{graph.name}: cells within {most} of {len(sources)} nodes")
     library.close(handle)
 
 
@@ -276,8 +284,25 @@ def compare_random_arrays(tally, library):
             away = distances_from(source + 1, ahead)
             owed = [away.get(target + 1, NO_DISTANCE) for target in every]
             tally.expect(library.table(handle, [source], every) == (0, owed), f"distances of the arrays of graph {seed} from {source}")
+        compare_random_cells(tally, library, handle, case, seed)
         library.close(handle)
         library.close(from_file)
+
+
+def compare_random_cells(tally, library, handle, case, seed):
+    """Cells of places that repeat, in both directions and within limits, are distances; the rows of a table don't change near rows."""
+    draw, every = random.Random(f"library cells {seed}"), list(range(case.nodes))
+    backwards = arcs_ahead([(end, start, weight) for start, end, weight in case.arcs])
+    for is_from, ahead in (0, backwards), (1, arcs_ahead(case.arcs)):
+        places = [draw.randrange(case.nodes) for _ in range(draw.randrange(9))] if case.nodes else []
+        away = [distances_from(place + 1, ahead) for place in places]
+        known = sorted({weight for row in away for weight in row.values()})
+        for most in NO_DISTANCE, draw.choice(known or [0]), max(0, draw.choice(known or [0]) - 1):
+            tally.expect(library.near_places(handle, places, most, len(places), is_from) == 0, f"places of graph {seed}")
+            rows = library.near_rows(handle, every, case.nodes * len(places))
+            cells = [word_within(row, source, most) for source in every for row in away]
+            tally.expect(library.near_table(handle, every, len(cells)) == (0, case.nodes, cells), f"cells of graph {seed} within {most} {is_from}")
+            tally.expect(library.near_rows(handle, every, case.nodes * len(places)) == rows, f"near rows of graph {seed} after its cells")
 
 
 def compare_quick(tally, library, graph):

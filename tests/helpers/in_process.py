@@ -211,6 +211,10 @@ class Library:
         lists = [(sources, ctypes.c_uint32), (values, ctypes.c_uint64), (limits, ctypes.c_uint64)]
         return self.many(self.calls.chtab_near_sums, handle, lists, [(len(sources) * len(limits) if room is None else room, ctypes.c_uint64)])
 
+    def near_table(self, handle, sources, room):
+        """The status, the number of rows, and the cells."""
+        return self.many(self.calls.chtab_near_table, handle, [(sources, ctypes.c_uint32)], [(room, ctypes.c_uint64)])
+
     def near_places(self, handle, places, limit=NO_DISTANCE, count=ALL, is_from=0):
         return self.calls.chtab_near_places(ctypes.byref(handle), ctypes.c_uint32(is_from), numbers(places), ctypes.c_size_t(len(places)),
                                             ctypes.c_uint64(limit), ctypes.c_uint32(count))

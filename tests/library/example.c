@@ -135,11 +135,13 @@ static size_t count_arcs(const uint8_t *graph, size_t graph_len) {
 /* The sums of a source within two limits, over two places that it is one of, and a sum that is too large. */
 static void ask_sums(chtab *network) {
     uint32_t source = 0, places[2] = {0, 0};
-    uint64_t values[2] = {3, 4}, limits[2] = {0, 9}, sums[2] = {5, 5}, rows = 9;
+    uint64_t values[2] = {3, 4}, limits[2] = {0, 9}, sums[2] = {5, 5}, cells[2] = {5, 5}, rows = 9;
     expect(chtab_near_places(network, 0, places, 2, CHTAB_NO_LIMIT, CHTAB_ALL) == CHTAB_OK, "places");
     expect(chtab_near_sums(network, &source, 1, values, 1, limits, 2, &rows, sums, 2) == CHTAB_LENGTHS && rows == 9 && sums[0] == 5, "lengths of sums");
     expect(chtab_near_sums(network, &source, 1, values, 2, limits, 2, &rows, sums, 2) == CHTAB_OK && rows == 1, "sums");
     expect(sums[0] == 7 && sums[1] == 7, "a place that is the source counts");
+    expect(chtab_near_table(network, &source, 1, &rows, cells, 1) == CHTAB_LENGTHS && cells[0] == 5, "lengths of cells");
+    expect(chtab_near_table(network, &source, 1, &rows, cells, 2) == CHTAB_OK && rows == 1 && !cells[0] && !cells[1], "cells of kept places");
     values[0] = CHTAB_NO_LIMIT;
     expect(chtab_near_sums(network, &source, 1, values, 2, limits, 2, &rows, sums, 2) == CHTAB_SUM_TOO_LARGE && rows == 0 && sums[0] == 7, "a sum too large");
 }

@@ -413,6 +413,26 @@ class Caller:
         self.expect((status, rows) == (STATUS["OK" if len(owed) == len(sources) else "SUM_TOO_LARGE"], len(owed)), "sums", sources, values, limits, told)
         self.expect(sums == [*flat, *[7] * (room - len(flat))], "sums", sources, values, limits, owed, told)
 
+    def ask_cells(self):
+        handle, sources = self.draw.choice(self.handles), self.nodes()
+        places, limit, count, is_from = self.kept.get(id(handle), ([], 0, 0, 0))
+        room = len(sources) * len(places) + (self.draw.random() < 0.1)
+        told = self.library.near_table(handle, sources, room)
+        wanted = "OK"
+        if not handle.is_open:
+            wanted = "CLOSED"
+        elif id(handle) not in self.kept or count < len(places):
+            wanted = "NO_PLACES"
+        elif room != len(sources) * len(places):
+            wanted = "LENGTHS"
+        elif not self.are_nodes(sources):
+            wanted = "NODE_RANGE"
+        if wanted != "OK":
+            self.expect(told == (STATUS[wanted], 7, [7] * room), "cells", sources, wanted, told)
+            return
+        ends = [(place, source) if is_from else (source, place) for source in sources for place in places]
+        self.expect(told == (0, len(sources), [self.word(*pair, limit) for pair in ends]), "cells", sources, places, limit, told)
+
     def ask_route_sums(self):
         """The sums are those of the lines of the routes, which `ask_routes` compares."""
         handle, sources = self.draw.choice(self.handles), self.nodes()
@@ -492,9 +512,9 @@ class Caller:
             self.open_changed, self.open_or_close, self.share, self.ask_nodes, self.ask_distances, self.ask_table, self.ask_route,
             self.keep_places, self.sweep, self.ask_near, self.save, self.ask_routes, self.ask_sums, self.open_like,
             self.ask_route_sums, self.ask_flows, self.ask_flows_table, self.open_arrays, self.open_quick,
-            self.open_topology, self.share_or_close_topology, self.ask_order, self.customize,
+            self.open_topology, self.share_or_close_topology, self.ask_order, self.customize, self.ask_cells,
         )
-        self.draw.choices(calls, (20, 5, 3, 2, 20, 15, 15, 10, 3, 20, 5, 20, 15, 10, 15, 15, 15, 10, 10, 10, 5, 3, 20))[0]()
+        self.draw.choices(calls, (20, 5, 3, 2, 20, 15, 15, 10, 3, 20, 5, 20, 15, 10, 15, 15, 15, 10, 10, 10, 5, 3, 20, 15))[0]()
 
 
 def memory():

@@ -321,6 +321,24 @@ static uint32_t write_sums(void) {
     return status;
 }
 
+/* Where the cells of a source are refused memory, the rows before it are written, and the next call gives the others. */
+static uint32_t write_cells(void) {
+    uint64_t rows = 9, more = 9;
+    uint32_t status, k;
+    long kept = granted;
+    granted = -1;
+    keep_all_places();
+    granted = kept;
+    memset(g.cells, 7, sizeof g.cells);
+    status = chtab_near_table(&g.network, g.ends, 8, &rows, g.cells, 64);
+    granted = -1;
+    expect((status == CHTAB_OK) == (rows == 8) && rows <= 8, "rows of cells before the one that is refused");
+    for (k = 8 * (uint32_t)rows; k < 64; k++) expect(g.cells[k] == 0x0707070707070707u, "cells behind stay");
+    if (rows < 8) expect(chtab_near_table(&g.network, g.ends + rows, 8 - rows, &more, g.cells + 8 * rows, 64 - 8 * rows) == CHTAB_OK, "other rows of cells");
+    for (k = 0; k < 64; k++) expect(g.cells[k] == distance_of(g.ends[k / 8], g.ends[k % 8]), "all cells");
+    return status;
+}
+
 /* Whether the call goes on without some of its memory, if that request alone is refused. Building does so: it packs its lists of legs, and
  * asks again. So do sums along routes, which then search for each pair. */
 static int goes_on = 0;
@@ -396,6 +414,7 @@ static void refuse_questions(void) {
     keep_all_places();
     refuse_each(sweep_rows, keep_all_places, "sweep");
     refuse_each(write_rows, NULL, "near rows");
+    refuse_each(write_cells, NULL, "cells of kept places");
     g.whole = 0;
     for (k = 0; k < 8; k++) {
         g.targets[k] = g.ends[(k + 3) % 8];

@@ -19,6 +19,7 @@ use Rattle.ch_engine.specs.declared.written.SumsEnd.{SumsEnd}
 use Rattle.ch_engine.specs.Held.{Held, only, with_places}
 use Rattle.ch_engine.specs.Lines.{IsOfSome, Lines}
 use Rattle.ch_engine.specs.NearRows.{AreRowsWritten, StaysFrom, begin_of}
+use Rattle.ch_engine.specs.NearTable.{AreCellsWritten, places_of}
 use Rattle.ch_engine.specs.Opened.{IsOpened, IsOpenedLike, IsOpenedOfArrays, IsOpenedQuickly}
 use Rattle.ch_engine.specs.Routes.{AreRoutesWritten, IsFound}
 use Rattle.ch_engine.specs.RouteSums.{ArePairSumsWritten}
@@ -29,7 +30,7 @@ use Rattle.ch_engine.specs.Refusals.{AreFlowLengths, AreFlowTableLengths, IsRefu
 use Rattle.ch_engine.specs.Refusals.{AreNodes, ArePairs, ArePairSumLengths, ArePlaces, AreRouteLengths, AreRowSources}
 use Rattle.ch_engine.specs.Refusals.{AreSumSources, AreTableLists, IsLikeError, IsNodePair, IsOpenError, IsRefusalOfPairs}
 use Rattle.ch_engine.specs.Refusals.{IsRefusalOfPairSums, IsRefusalOfPlaces, IsRefusalOfRoute, IsRefusalOfRoutes, IsRefusalOfRows}
-use Rattle.ch_engine.specs.Refusals.{AreTableSumLengths, IsRefusalOfTableSums}
+use Rattle.ch_engine.specs.Refusals.{AreCellSources, AreTableSumLengths, IsRefusalOfCells, IsRefusalOfTableSums}
 use Rattle.ch_engine.specs.Refusals.{IsRefusalOfSums, IsRefusalOfSweep, IsRefusalOfTable, IsArraysOpenError}
 use Rattle.ch_c.specs.declared.faults.Fault.{Fault}
 use Rattle.ch_c.specs.declared.answers.Found.{Found}
@@ -245,6 +246,22 @@ AreRowsAnswered held sources before after status =
     ⊎ ((refusal : Refusal) × (status ≡ refusal_status refusal) × (after ≡ before)
     × IsRefusalOfRows (nodes_of held.hierarchy) held.near sources (length before.ends) (length before.weights)
     (length before.places) refusal)
+
+-- the number of rows of a table over the kept places, and their cells
+pub record CellArrays : Type 0 where
+  pub rows : ℕ
+  pub cells : List ℕ
+
+-- rows of a table over the kept places are written as far as there is memory, or they are refused and all is as before. Behind
+-- the rows that are written all is as before
+abbrev pub AreCellsAnswered : Held → List ℕ → CellArrays → CellArrays → ℕ → Type 0
+AreCellsAnswered held sources before after status =
+    ((end : End) × (status ≡ end_status end)
+    × AreCellSources (nodes_of held.hierarchy) held.near sources (length before.cells)
+    × AreCellsWritten held sources after.cells (record { count = after.rows; end = end })
+    × StaysFrom (after.rows * places_of held.near) before.cells after.cells)
+    ⊎ ((refusal : Refusal) × (status ≡ refusal_status refusal) × (after ≡ before)
+    × IsRefusalOfCells (nodes_of held.hierarchy) held.near sources (length before.cells) refusal)
 
 -- the arrays for routes: the number of routes, the weight of each, the end of its nodes, the nodes, and the lines
 pub record RouteArrays : Type 0 where

@@ -2,7 +2,7 @@
 ghost use Rattle.std.specs.Prelude.{◌≡◌, ◌↔◌, IfSome, IsSome, IsTrue, MatchOption, None, Some, ⊤};
 ghost use Rattle.ch_hierarchy.specs.Hierarchy.{nodes_of};
 ghost use Rattle.ch_engine.specs.Lines.{IsOfSome};
-ghost use Rattle.ch_c.specs.Calls.{AreFlowsAnswered, ArePairsAnswered, ArePairSumsAnswered, ArePlacesKept, AreRoutesAnswered, AreRowsAnswered, AreSumsAnswered, AreTableFlowsAnswered, AreTableSumsAnswered, IsRouteAnswered, IsSaved, IsSwept, IsTableAnswered, OfNetwork};
+ghost use Rattle.ch_c.specs.Calls.{AreCellsAnswered, AreFlowsAnswered, ArePairsAnswered, ArePairSumsAnswered, ArePlacesKept, AreRoutesAnswered, AreRowsAnswered, AreSumsAnswered, AreTableFlowsAnswered, AreTableSumsAnswered, IsRouteAnswered, IsSaved, IsSwept, IsTableAnswered, OfNetwork};
 ghost use Rattle.ch_c.specs.declared.status.TheConstants.{OK};
 
 pub use crate::answers::Found;
@@ -11,7 +11,7 @@ use crate::answers::{
     write_table, write_table_flows, write_table_sums,
 };
 use crate::erased::ErasedEngine;
-use crate::near::{keep_places, sweep, write_rows, write_sums};
+use crate::near::{keep_places, sweep, write_cells, write_rows, write_sums};
 use crate::raw_box::RawBox;
 use crate::status::{CLOSED, OK};
 use ch_engine::Engine;
@@ -402,6 +402,26 @@ pub extern "C" fn chtab_near_sums(
         return CLOSED;
     };
     let status = write_sums(alloc, &mut engine, sources, values, limits, rows, sums);
+    handle.put(engine);
+    status
+}
+
+/// Writes rows of a table over the kept places: the number of rows, and for each source the distance of each place.
+#[unsafe(no_mangle)]
+pub extern "C" fn chtab_near_table(
+    alloc: Global,
+    handle: &mut Handle,
+    sources: &[u32],
+    rows: &mut u64,
+    cells: &mut [u64],
+) -> u32
+    ensures answered { OfNetwork handle.old.engine.network result ((rows.new ≡ rows.old) × (cells.new ≡ cells.old)) (λ held. AreCellsAnswered held sources.now (record { rows = rows.old; cells = cells.old }) (record { rows = rows.new; cells = cells.new }) result) }
+    ensures same { handle.new.engine.network ≡ handle.old.engine.network }
+{
+    let Some(mut engine) = handle.take(alloc) else {
+        return CLOSED;
+    };
+    let status = write_cells(alloc, &mut engine, sources, rows, cells);
     handle.put(engine);
     status
 }

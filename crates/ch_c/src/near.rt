@@ -1,6 +1,6 @@
 //! Near rows, as C sees them.
 ghost use Rattle.std.specs.Prelude.{◌≡◌, Some};
-ghost use Rattle.ch_c.specs.Calls.{ArePlacesKept, AreRowsAnswered, AreSumsAnswered, IsSwept, direction_of as the_direction, end_status, sums_status};
+ghost use Rattle.ch_c.specs.Calls.{AreCellsAnswered, ArePlacesKept, AreRowsAnswered, AreSumsAnswered, IsSwept, direction_of as the_direction, end_status, sums_status};
 
 use crate::status::{NO_MEMORY, OK, SUM_TOO_LARGE, TOO_SHORT, status_of};
 use ch_engine::{End, Engine, SumsEnd};
@@ -77,6 +77,26 @@ pub(crate) fn status_of_end(end: End) -> u32
         End::All => OK,
         End::NoRoom => TOO_SHORT,
         End::NoMemory => NO_MEMORY,
+    }
+}
+
+/// Writes rows of a table over the kept places as far as there is memory. Returns a status.
+pub(crate) fn write_cells(
+    alloc: Global,
+    engine: &mut Engine,
+    sources: &[u32],
+    rows: &mut u64,
+    cells: &mut [u64],
+) -> u32
+    ensures answered { AreCellsAnswered engine.old sources.now (record { rows = rows.old; cells = cells.old }) (record { rows = rows.new; cells = cells.new }) result }
+    ensures same { engine.new ≡ engine.old }
+{
+    match engine.near_table(alloc, sources, cells) {
+        Ok(made) => {
+            *rows = made.count;
+            status_of_end(made.end)
+        }
+        Err(refusal) => status_of(refusal),
     }
 }
 
