@@ -60,9 +60,9 @@ class Block:
 
 
 def cut(sources: Any, targets: Any, side: int) -> Iterator[Block]:
-    """Yields the blocks of a table, one row of blocks after the other."""
-    for row in range(0, len(sources), side):
-        for column in range(0, len(targets), side):
+    """Yields the blocks of a table, one column of blocks after the other."""
+    for column in range(0, len(targets), side):
+        for row in range(0, len(sources), side):
             yield Block(row, column, sources[row:row + side], targets[column:column + side])
 
 
@@ -72,8 +72,8 @@ def cells_of(engine: InProcess, block: Block, within: int | None) -> Integers:
     try:
         rows = library.nodes_of(block.sources, engine.nodes)
         columns = library.nodes_of(block.targets, engine.nodes)
-        with engine.lent_handle() as handle:
-            return handle.table(rows, columns, limit)
+        # The handle of a thread keeps the targets for its next block of the same column.
+        return engine.handle().rows_to(rows, columns, limit)
     except (ProgramFault, ValueError) as fault:
         raise RuntimeError(f"block of {block.name()}: {fault}") from None
 

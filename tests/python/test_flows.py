@@ -5,9 +5,10 @@ import pytest
 
 from helpers.commands import raises
 from helpers.marks import needs
+from helpers.nearness import rows_told
 from helpers.running import PROGRAM
 import chtab
-from chtab._engine import in_process
+from chtab._engine import in_process, library
 
 pytestmark = [needs("python3-numpy", "python3-pandas"), pytest.mark.usefixtures("program")]
 
@@ -140,6 +141,35 @@ def test_progress_of_flows(monkeypatch):
 
         raises(KeyboardInterrupt, partial(network.flows, progress=stop), [1] * 10, [3] * 10)
         assert network.flows([1], [3]).tolist() == [1, 1]
+
+
+# Tables.
+
+
+@pytest.mark.parametrize("workers, timeout, side, width, worth", [(1, None, 3, 4, 1 << 20), (1, 60, 2, 9, 1 << 20), (3, None, 2, 3, 4), (1, None, 1 << 12, 1 << 15, 1)])
+def test_large_tables_keep_their_targets(monkeypatch, workers, timeout, side, width, worth):
+    """The cells in blocks are those of one call, also within a limit, and one thread searches from each target once; near rows are as before."""
+    import numpy
+
+    kept, keep = [], library.Handle.keep_places
+    monkeypatch.setattr(library.Handle, "keep_places", lambda handle, places, *words: [kept.append(len(places)), keep(handle, places, *words)][1])
+    for seed in range(12):
+        draw = numpy.random.default_rng(seed)
+        count, size = int(draw.integers(2, 25)), int(draw.integers(1, 80))
+        tails, heads, weights = draw.integers(0, count, size), draw.integers(0, count, size), draw.integers(0, 9, size)
+        made = chtab.Network.from_arrays(tails, heads, weights, nodes=range(count), program=PROGRAM, workers=workers, timeout=timeout)
+        with made as network:
+            sources, targets = (draw.integers(0, count, length) for length in draw.integers(0, 12, 2).tolist())
+            near, owed = network.near(sources, [0, 1], count=1), [network.table(sources, targets, within=within) for within in (None, 7)]
+            with monkeypatch.context() as patch:
+                for name, number in ("SIDE", side), ("SHORT", side), ("WIDTH", width), ("WORTH", worth):
+                    patch.setattr(in_process, name, number)
+                kept.clear()
+                found = [network.table(sources, targets, within=within) for within in (None, 7)]
+            assert all((one == other).all() for one, other in zip(found, owed)), seed
+            if workers == 1 and max(len(sources), len(targets)) > side:
+                assert sum(kept) == 2 * len(targets) * bool(len(sources)), (seed, kept)
+            assert rows_told(network.near(sources, [0, 1], count=1)) == rows_told(near), seed
 
 
 def test_tables_of_demands_as_frames():

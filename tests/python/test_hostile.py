@@ -276,6 +276,7 @@ def test_a_sweep_without_memory_is_left_out(monkeypatch):
 NODES = list(range(1, 601))
 SLOW = {
     "open": lambda network: of_country().close(), "distances": lambda network: network.distances(NODES, NODES), "table": lambda network: network.table(NODES, NODES),
+    "rows_to": lambda network: network.table(NODES * 8, NODES),
     "keep_places": lambda network: network.near([1], NODES, count=1), "sweep": lambda network: network.near(None, NODES, count=1),
     "near_rows": lambda network: network.near(NODES, [1]), "routes_with_lines": lambda network: network.routes(NODES, NODES),
     "near_sums": lambda network: network.accessibility(1, 2**60, sources=NODES, targets=NODES),

@@ -62,7 +62,7 @@ def test_what_c_would_misread_is_refused():
         numpy.arange(4, dtype=numpy.uint32)[::2], right[::-1], right.reshape(1, 2), right.reshape(2, 1), numpy.ma.masked_array(right),
         numpy.array([0, None]), memoryview(right), (ctypes.c_uint32 * 2)(0, 1), numpy.arange(9, dtype=numpy.uint8)[1:].view(numpy.uint32),
     ):
-        for call in handle.distances, handle.table:
+        for call in handle.distances, handle.table, handle.rows_to:
             raises(TypeError, call, wrong, right)
             raises(TypeError, call, right, wrong)
         raises(TypeError, handle.keep_places, wrong)
@@ -76,6 +76,7 @@ def test_what_c_would_misread_is_refused():
         outside = columns_of([0, node])[0]
         for call, *words in (
             (handle.distances, outside, right), (handle.distances, right, outside), (handle.table, outside, right), (handle.table, right, outside),
+            (handle.rows_to, outside, right), (handle.rows_to, right, outside),
             (handle.keep_places, outside), (route, handle, node, 0), (route, handle, 0, node), (handle.route_sums, outside, right, values),
             (handle.flows, outside, right, values, 2),
         ):

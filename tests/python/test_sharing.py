@@ -332,7 +332,7 @@ def test_a_closed_handle_answers_nothing():
     for each in closed, handle:
         for call, words in {
             "distances": (one, one), "table": (one, one), "routes_with_lines": (one, one, 3), "nodes": (), "share": (), "save": (), "keep_places": (one,), "sweep": (),
-            "near_rows": (one, 1),
+            "near_rows": (one, 1), "rows_to": (one, one),
         }.items():
             raises(chtab.ChtabError, getattr(each, call), *words, told="the network is closed")
         raises(chtab.ChtabError, type(other)(other.calls).open_like, FIRST.read_bytes(), each, 5, told="the network is closed")

@@ -28,6 +28,8 @@ if TYPE_CHECKING:
 # table. Hardly any call then takes more than a second. With a time limit a table has smaller
 # blocks.
 PAIRS, ROUTES, SIDE, SHORT = 1 << 13, 1 << 11, 1 << 12, 1 << 10
+# The most targets of a table that a handle keeps, which are searched from once for all rows.
+WIDTH = 1 << 15
 # The most pairs whose sums one call gives where the same nodes are in many of them, as in a table.
 # The library then searches once for each node, and not for each pair.
 SUMS, SHARED = 1 << 17, 3
@@ -229,26 +231,25 @@ class InProcess:
 
     def in_parts(
         self, count: int, most: int, call: Callable[[library.Handle, slice], Any], name: str,
-        things: str, progress: Asked = None, searches: int = 1,
+        things: str, progress: Asked = None, searches: int = 1, keeps: bool = False,
     ) -> None:
-        """Calls for parts of `count` items, at most `most`, which `name` and `things` report."""
+        """Calls for parts of `count` items, at most `most`, which `name` and `things` report. A
+        call that keeps places gets a handle that is lent."""
         # Loading is not counted, and comes before the time is.
         own, caller, timeout = self.handle(), threading.current_thread(), self.setting.timeout
         scale = 1 if self.nodes >= SMALL else SEARCHES
-        if progress is None and count <= (most if timeout is None else min(most, parts.FIRST)):
+        few = most if timeout is None else min(most, parts.FIRST)
+        if progress is None and count <= few and not keeps:
             deadline = deadlines.current(timeout)
             if count:
                 interruptible(count * searches // scale, call, own, slice(0, count))
             return deadline.check()
 
         def work(some: Iterator[slice]) -> None:
-            if threading.current_thread() is caller:
+            is_own = threading.current_thread() is caller and not keeps
+            with contextlib.nullcontext(own) if is_own else self.lent_handle() as handle:
                 for part in some:
-                    interruptible((part.stop - part.start) * searches // scale, call, own, part)
-                return
-            with self.lent_handle() as handle:
-                for part in some:
-                    call(handle, part)
+                    interruptible((part.stop - part.start) * searches // scale, call, handle, part)
 
         parts.make(count, most, self.setting.workers, work, name, things, progress, timeout)
 
@@ -281,11 +282,13 @@ class InProcess:
         rows, columns = (library.nodes_of(nodes, self.nodes) for nodes in (sources, targets))
         found = numpy.empty((len(rows), len(columns)), numpy.int64)
         limit = library.NO_LIMIT if within is None else within
+        keeps = max(len(rows), len(columns)) > SIDE
 
         def ask(handle: library.Handle, some: tuple[slice, slice]) -> None:
-            found[some] = handle.table(rows[some[0]], columns[some[1]], limit)
+            call = handle.rows_to if keeps else handle.table
+            found[some] = call(rows[some[0]], columns[some[1]], limit)
 
-        self.in_blocks(len(rows), len(columns), ask, "table", progress)
+        self.in_blocks(len(rows), len(columns), ask, "table", progress, keeps)
         return found
 
     def table_sums(
@@ -305,21 +308,24 @@ class InProcess:
 
     def in_blocks(
         self, rows: int, columns: int, call: Callable[[library.Handle, tuple[slice, slice]], None],
-        name: str, progress: Asked = None,
+        name: str, progress: Asked = None, keeps: bool = False,
     ) -> None:
-        """Calls for blocks of a table, slices of rows and of columns, until all are done."""
+        """Calls for blocks of a table, slices of rows and of columns, until all are done: for those
+        of the same columns one after the other, because a call may keep these as places."""
         side = SIDE if self.setting.timeout is None else SHORT
+        most = WIDTH if keeps and self.setting.timeout is None else side
         # Several threads have a part each.
         shares = max(1, min(self.setting.workers, rows * columns // WORTH))
-        height, width = max(1, min(side, -(-rows // shares))), max(1, min(columns, side))
-        across = -(-columns // width)
+        height, width = max(1, min(side, -(-rows // shares))), max(1, min(columns, most))
+        down = -(-rows // height)
 
         def ask(handle: library.Handle, part: slice) -> None:
             for block in range(part.start, part.stop):
-                row, column = block // across * height, block % across * width
+                row, column = block % down * height, block // down * width
                 call(handle, (slice(row, row + height), slice(column, column + width)))
 
-        self.in_parts(-(-rows // height) * across, 1, ask, name, "blocks", progress, height + width)
+        count, searches = down * -(-columns // width), height + width
+        self.in_parts(count, 1, ask, name, "blocks", progress, searches, keeps)
 
     def paths(self, pairs: Integers, progress: Asked = None) -> Paths:
         """The routes of pairs of nodes, an array (n, 2)."""

@@ -104,6 +104,7 @@ CALLS = {
     "chtab_near_sweep": (HANDLE,),
     "chtab_near_rows": (HANDLE, *ARRAY, COUNT, *ARRAY, *ARRAY, *ARRAY),
     "chtab_near_sums": (HANDLE, *ARRAY, *ARRAY, *ARRAY, COUNT, *ARRAY),
+    "chtab_near_table": (HANDLE, *ARRAY, COUNT, *ARRAY),
 }
 
 
@@ -243,6 +244,8 @@ class Handle(Opened):
         rooms: tuple[Any, ...] = (self.sources, self.targets, self.weights)
         self.rooms = [ctypes.addressof(room) for room in rooms]
         self.is_asked = False
+        # The targets, with their limit, that `rows_to` keeps as places.
+        self.targets_kept: tuple[bytes, int] | None = None
 
     def open(self, graph: bytes, saved: bytes | None = None) -> None:
         """Opens the network of a graph and a saved hierarchy, or of one that the library builds."""
@@ -345,6 +348,19 @@ class Handle(Opened):
         see_that_done(self.ask(self.calls.chtab_table, *places, limit, written(out, numpy.int64)))
         return out.reshape(len(sources), len(targets))
 
+    def rows_to(self, sources: Nodes, targets: Nodes, limit: int = NO_LIMIT) -> Integers:
+        """The same, over targets that are kept as places for a further call with the same ones."""
+        given, (_, width) = column(sources, NODE), column(targets, NODE)
+        out, rows = numpy.empty((len(sources), width), numpy.int64), ctypes.c_uint64()
+        own = targets.tobytes(), limit
+        with self.lock:
+            if self.targets_kept != own:
+                self.keep_places(targets, limit)
+                self.targets_kept = own
+            cells = written(out.reshape(-1), numpy.int64)
+            see_that_done(self.ask(self.calls.chtab_near_table, given, ctypes.byref(rows), cells))
+        return out
+
     def routes_with_lines(
         self, sources: Nodes, targets: Nodes, room: int,
     ) -> tuple[Integers, Integers, Nodes, Nodes]:
@@ -409,7 +425,9 @@ class Handle(Opened):
         if not (0 <= limit <= NO_LIMIT and 0 <= count <= ALL):
             raise ValueError("a limit is a number of 64 bits, and a count one of 32")
         call, own = self.calls.chtab_near_places, column(places, NODE)
-        see_that_done(self.ask(call, int(is_from), own, limit, count))
+        with self.lock:
+            self.targets_kept = None
+            see_that_done(self.ask(call, int(is_from), own, limit, count))
 
     def sweep(self) -> None:
         """Makes the rows of all nodes to the kept places, and keeps these rows too."""
