@@ -331,6 +331,7 @@ def check_package_without_library(tally, folder):
     tally.expect((status, out, told, list(checkout.glob("*.deb"))) == (3, "", wanted, []), f"a package whose library can't be made: {status} {out} {err}")
     (folder / "without").mkdir()
     status, out, err = said([ROOT / "packaging" / "deb", "--without-library", folder / "without"], folder)
+    print("".join(f"{line}\n" for line in err.splitlines() if "rt check has to say" in line), end="", flush=True)
     listed = said(["dpkg-deb", "--contents", out.strip()], folder)[1]
     tally.expect(status == 0 and "usr/lib/chtab/program" in listed and "libchtab" not in listed, f"a package without the library: {status} {out} {err}")
 
