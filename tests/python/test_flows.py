@@ -148,7 +148,7 @@ def test_progress_of_flows(monkeypatch):
 
 @pytest.mark.parametrize("workers, timeout, side, width, worth", [(1, None, 3, 4, 1 << 20), (1, 60, 2, 9, 1 << 20), (3, None, 2, 3, 4), (1, None, 1 << 12, 1 << 15, 1)])
 def test_large_tables_keep_their_targets(monkeypatch, workers, timeout, side, width, worth):
-    """The cells in blocks are those of one call, also within a limit, and one thread searches from each target once; near rows are as before."""
+    """The cells in blocks are those of one call, also within a limit, and one thread searches from each target once at most; near rows are as before."""
     import numpy
 
     kept, keep = [], library.Handle.keep_places
@@ -168,7 +168,7 @@ def test_large_tables_keep_their_targets(monkeypatch, workers, timeout, side, wi
                 found = [network.table(sources, targets, within=within) for within in (None, 7)]
             assert all((one == other).all() for one, other in zip(found, owed)), seed
             if workers == 1 and max(len(sources), len(targets)) > side:
-                assert sum(kept) == 2 * len(targets) * bool(len(sources)), (seed, kept)
+                assert sum(kept) <= 2 * len(targets) * bool(len(sources)) and (kept or not owed[0].size), (seed, kept)
             assert rows_told(network.near(sources, [0, 1], count=1)) == rows_told(near), seed
 
 
