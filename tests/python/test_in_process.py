@@ -88,7 +88,7 @@ def test_what_c_would_misread_is_refused():
         ("lengths", handle.flows, right, right, values[:1], 2), ("lengths", handle.flows, right, right, values, 1), ("lengths", handle.flows, right, right, values, 3),
         ("64 bits", handle.table, right, right, -1), ("64 bits", handle.table, right, right, 2**64), ("64 bits", handle.keep_places, right, -1),
         ("64 bits", handle.keep_places, right, 2**64), ("one of 32", handle.keep_places, right, 5, -1), ("one of 32", handle.keep_places, right, 5, 2**32),
-        ("no places are kept", handle.sweep), ("no places are kept", handle.near_rows, right, 9), ("65,536", handle.table, many, right),
+        ("no places are kept", handle_of().sweep), ("no places are kept", handle_of().near_rows, right, 9), ("65,536", handle.table, many, right),
         ("65,536", handle.table, right, many), ("65,536", handle.keep_places, many), ("more than 2^63", handle.flows, right, last, values, 2),
         ("2^64 or more", handle.route_sums, right[:1], last[:1], values | 1),
     ):
