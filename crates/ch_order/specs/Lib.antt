@@ -5,4 +5,5 @@ pub mod Priorities
 pub mod Progress
 pub mod Quick
 pub mod Steps
+pub mod LikeErrors
 pub mod OrderText

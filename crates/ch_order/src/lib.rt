@@ -6,8 +6,7 @@
 //!   does not depend on how workers share the work. The rules name only one, and it is kept for its graph.
 //! - [`build_alone`] makes the one by depth without any thread.
 //! - [`build_like`] and [`build_like_alone`] make the hierarchy in an order like a given one: its first nodes come
-//!   as given, and the last per cent are ordered afresh by depth. `build_like` refuses an order that would join too many
-//!   nodes by legs.
+//!   as given, and the last per cent are ordered afresh by depth. They refuse an order that would join too many nodes by legs.
 //! - [`build_quickly`] makes a kept hierarchy whose order no rule names, in the least time, and [`build_like_quickly`]
 //!   one that begins like a given one. They are for answers that do not depend on the order. [`build_quickly_alone`]
 //!   starts no thread.

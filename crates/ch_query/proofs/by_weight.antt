@@ -14,3 +14,6 @@ pub mod WeighingEnds
 pub mod SearchSpaces
 pub mod MoreEntries
 pub mod LoweredWords
+pub mod Marking
+pub mod MarkedSums
+pub mod MarkedEnds

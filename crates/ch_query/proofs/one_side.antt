@@ -15,6 +15,7 @@ pub mod Stalling
 pub mod End
 pub mod Spreads
 pub mod TightNodes
+pub mod TightBefore
 pub mod WeighedPaths
 pub mod Passes
 pub mod Climbing

@@ -10,3 +10,5 @@ pub mod RouteWalks
 pub mod RouteAnswers
 pub mod Replies
 pub mod SearchTrees
+pub mod MarkedSteps
+pub mod MarkedWays

@@ -38,3 +38,9 @@ pub record IsTraced (H : LevelsAndLegs) (x : Search) (m : ℕ) (old new : List P
   pub steps : List DescentStep
   pub descent : IsDescent (rows_of H x.side) x.source m steps
   pub pushed : new ≡ old ++ map (pending_of x.side) steps
+
+-- the same for a side and a source
+pub record IsTracedOn (H : LevelsAndLegs) (side : Side) (s m : ℕ) (old new : List PendingLeg) : Type 0 where
+  pub steps : List DescentStep
+  pub descent : IsDescent (rows_of H side) s m steps
+  pub pushed : new ≡ old ++ map (pending_of side) steps

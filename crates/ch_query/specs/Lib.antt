@@ -20,6 +20,7 @@ pub mod Replies
 pub mod Spread
 pub mod Tasks
 pub mod SearchSpace
+pub mod Marks
 pub mod SearchSpaceLaws
 pub mod SearchTree
 pub mod Lowered

@@ -168,8 +168,16 @@ pub record AreUnstalledOn (H : LevelsAndLegs) (side : Side) (x : WeightSearch) (
   pub whole : (v : ℕ) (c : Cost) → IsSettled (side_costs H side x) (side_keys H side x) v c →
       is_idle_on H side (source_of x side) v c ⊎ Contains list (rank_of H v, c.weight)
 
+-- no state of this side is settled
+abbrev pub IsFreshOn : LevelsAndLegs → Side → WeightSearch → Type 0
+IsFreshOn H side x = (v : ℕ) (c : Cost) → IsSettled (side_costs H side x) (side_keys H side x) v c → ⊥
+
+-- no state is settled
+abbrev pub IsUnsettled : LevelsAndLegs → WeightSearch → Type 0
+IsUnsettled H x = (side : Side) → IsFreshOn H side x
+
 -- a search that has begun on this side alone, and has settled nothing
 pub record HasBegunOn (H : LevelsAndLegs) (side : Side) (x : WeightSearch) : Type 0 where
   pub weighing : IsWeighingOn H side x
   pub alone : IsEmpty (side_keys H (other side) x)
-  pub fresh : (v : ℕ) (c : Cost) → IsSettled (side_costs H side x) (side_keys H side x) v c → ⊥
+  pub fresh : IsFreshOn H side x

@@ -4,6 +4,8 @@ pub(crate) mod ancestors;
 mod descent;
 mod legs;
 pub(crate) mod query;
+pub(crate) mod tries;
+pub(crate) mod unique;
 pub(crate) mod unpacking;
 pub(crate) mod way;
 

@@ -4,6 +4,7 @@
 mod distances;
 mod lists;
 mod lowering;
+pub(crate) mod marked;
 pub(crate) mod search;
 mod spaces;
 

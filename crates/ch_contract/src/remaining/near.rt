@@ -19,13 +19,13 @@ use ch_hierarchy::Leg;
 
 impl Remaining {
     /// Returns the number of shortcuts of `v` between near neighbours, and the number of legs that touch `v`, if these shortcuts
-    /// are more than `most`. It searches for no witness, and looks at no more neighbours than it needs.
+    /// are more than `most`. It searches for no witness, and looks at no more neighbours than it needs. If `v` has no more pairs of
+    /// legs, as most nodes of roads do, it looks at none.
     pub(crate) fn near_measure(&self, v: u32, most: u64) -> Option<Measure>
         requires { v < self.now.nodes }
         ensures { (h : ℕ) → IfSome result (IsMeasureUpTo most self.now.nodes h (legs_of self.now) v) }
     {
-        let nodes = self.nodes();
-        if most >= nodes as u64 * nodes as u64 {
+        if self.pairs(v) <= most {
             return None;
         }
         let first = self.count_near(End::First, v, most);

@@ -105,6 +105,8 @@ impl Remaining {
     /// Returns the number of legs to a node times the number of legs from it.
     pub fn pairs(&self, node: u32) -> u64
         requires { node < self.now.nodes }
+        ensures count { self.now.nodes ≤ MOST_NODES }
+        ensures limits { AreLegsWithin self.now.nodes (legs_of self.now) }
     {
         let out = self.out_legs(node).len() as u64;
         out.saturating_mul(self.in_legs(node).len() as u64)

@@ -1,14 +1,16 @@
 //! The construction of a hierarchy by the caller alone.
-ghost use Rattle.std.specs.Prelude.{◌≡◌, ◌≢◌, ℕ, ◌<◌, ◌++◌, pos, All, Err, IfOk, IfSome, None};
+ghost use Rattle.std.specs.Prelude.{◌≡◌, ◌≢◌, ℕ, ◌<◌, ◌++◌, pos, All, Err, IfOk, IfSome, None, take};
 ghost use Rattle.ch_graph.specs.Graph.{IsWithinLimits};
 ghost use Rattle.ch_contract.specs.Built.{IsHierarchyBy};
-ghost use Rattle.ch_contract.specs.Like.{IsHierarchyFrom, IsHierarchyLike};
-ghost use Rattle.ch_order.specs.declared.construction.like.OrderError.TheVariants as OrderError;
+ghost use Rattle.ch_contract.specs.Like.{IsHierarchyFrom, IsHierarchyLike, given_count as count_of};
+ghost use Rattle.ch_order.specs.declared.construction.like.LikeError.TheVariants as LikeError;
+ghost use Rattle.ch_order.specs.Construction.{HasGiven};
+ghost use Rattle.ch_order.specs.Crowded.{HasCrowded};
 ghost use Rattle.ch_hierarchy.specs.Kept.{IsKept};
 ghost use Rattle.ch_hierarchy.specs.Saved.{IsOrderOf};
 
 use super::Construction;
-use super::like::{OrderError, split_given};
+use super::like::{LikeError, split_given};
 use crate::keys::{FIRST_EXACT, GROWTH, Keys, TRIES};
 use crate::priority::PriorityJob;
 use ch_contract::memory::ask_ahead;
@@ -39,24 +41,50 @@ pub fn build_alone(alloc: Global, graph: &Graph, hops: HopBound) -> Result<Hiera
 /// The caller builds it alone: no thread is started, and no progress is reported.
 ///
 /// # Errors
-/// `Order` if the given order does not have each node of the graph exactly once, and `NoMemory` if there is no memory.
-/// What was made is dropped, and the graph and the order are as they were.
+/// Those of [`build_like`](crate::build_like). What was made is dropped, and the graph and the order are as they were.
 pub fn build_like_alone(
     alloc: Global,
     graph: &Graph,
     given: &[u32],
     fresh: Percent,
     hops: HopBound,
-) -> Result<Hierarchy, OrderError>
+) -> Result<Hierarchy, LikeError>
     ensures hierarchy { IfOk result (IsHierarchyLike graph.now hops.number given.now fresh.number) }
     ensures kept { IfOk result (IsKept graph.now) }
     ensures order { IfOk result (λ _. IsOrderOf graph.now.nodes given.now) }
-    ensures refused { result ≡ Err OrderError.Order → IsOrderOf graph.now.nodes given.now → ⊥ }
+    ensures refused { result ≡ Err LikeError.Order → IsOrderOf graph.now.nodes given.now → ⊥ }
+    ensures few { IfOk result (λ _. (v : ℕ) → HasCrowded graph.now hops.number (take (count_of graph.now.nodes fresh.number) given.now) v → ⊥) }
+    ensures crowded { (v : ℕ) → result ≡ Err (LikeError.Crowded v) → HasCrowded graph.now hops.number (take (count_of graph.now.nodes fresh.number) given.now) v }
     ensures limits { IsWithinLimits graph.now }
 {
     ask_ahead(alloc, graph)?;
     let (first, others) = split_given(alloc, graph, given, fresh)?;
-    Ok(contract_in_turn(alloc, graph, first, others, hops)?)
+    let begun = Construction::after_uncrowded(alloc, &Open, graph, first, hops)?;
+    Ok(contract_begun(alloc, graph, begun, first, others, hops)?)
+}
+
+/// Goes on with a construction in which the nodes `given` are contracted, as they come. Contracts the others by depth, and
+/// returns the hierarchy. The two lists together have each node once.
+fn contract_begun(
+    alloc: Global,
+    graph: &Graph,
+    begun: Construction,
+    given: &[u32],
+    others: &[u32],
+    hops: HopBound,
+) -> Result<Hierarchy, AllocError>
+    requires order { IsOrderOf graph.now.nodes (given.now ++ others.now) }
+    requires begun { HasGiven graph.now hops.number given.now begun }
+    ensures { IfOk result (IsHierarchyFrom OrderBy.Depth graph.now hops.number given.now) }
+{
+    let keys = Keys {
+        by: OrderBy::Depth,
+        exact: FIRST_EXACT,
+    };
+    if let Some(hierarchy) = contract_others(alloc, graph, begun, given, others, hops, keys)? {
+        return Ok(hierarchy);
+    }
+    contract_in_turn(alloc, graph, given, others, hops)
 }
 
 /// Builds the contraction hierarchy of a graph, one node after the other. The nodes `given` are contracted first, as they
@@ -75,33 +103,37 @@ fn contract_in_turn(
     let mut exact = FIRST_EXACT;
     for _ in 0..TRIES {
         let keys = Keys { by, exact };
-        if let Some(hierarchy) = contract_by(alloc, graph, given, others, hops, keys)? {
+        let begun = Construction::after(alloc, &Open, graph, given, hops)?;
+        if let Some(hierarchy) = contract_others(alloc, graph, begun, given, others, hops, keys)? {
             return Ok(hierarchy);
         }
         exact = exact.saturating_mul(GROWTH);
     }
     let exact = i64::MAX;
     let keys = Keys { by, exact };
-    match contract_by(alloc, graph, given, others, hops, keys)? {
+    let begun = Construction::after(alloc, &Open, graph, given, hops)?;
+    match contract_others(alloc, graph, begun, given, others, hops, keys)? {
         Some(hierarchy) => Ok(hierarchy),
         None => unreachable!(),
     }
 }
 
-/// Builds the same hierarchy by these keys. Returns `None` if a key comes first that is not exact.
-fn contract_by(
+/// Goes on with a construction in which the nodes `given` are contracted, as they come. Contracts the others by these keys,
+/// and returns the hierarchy, or `None` if a key comes first that is not exact. The two lists together have each node once.
+fn contract_others(
     alloc: Global,
     graph: &Graph,
+    begun: Construction,
     given: &[u32],
     others: &[u32],
     hops: HopBound,
     keys: Keys,
 ) -> Result<Option<Hierarchy>, AllocError>
     requires order { IsOrderOf graph.now.nodes (given.now ++ others.now) }
+    requires begun { HasGiven graph.now hops.number given.now begun }
     ensures hierarchy { IfOk result (λ o. IfSome o (IsHierarchyFrom keys.by graph.now hops.number given.now)) }
     ensures none { IfOk result (λ o. o ≡ None → keys.exact ≢ pos 9223372036854775807) }
 {
-    let begun = Construction::after(alloc, &Open, graph, given, hops)?;
     let mut construction = begun.rank_alone(alloc, others, hops, keys)?;
     while let Some(node) = construction.next() {
         if !construction.is_exact(node, keys) {

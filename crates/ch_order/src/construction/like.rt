@@ -5,6 +5,7 @@ ghost use Rattle.ch_hierarchy.specs.Kept.{IsKept};
 ghost use Rattle.ch_hierarchy.specs.Saved.{IsOrderOf};
 ghost use Rattle.ch_order.specs.declared.construction.like.OrderError.TheVariants as OrderError;
 ghost use Rattle.ch_order.specs.declared.construction.like.LikeError.TheVariants as LikeError;
+ghost use Rattle.ch_order.specs.LikeErrors.{like_error};
 ghost use Rattle.ch_order.specs.OrderText.{like_text, order_text};
 ghost use Rattle.ch_order.specs.Crowded.{HasCrowded};
 ghost use Rattle.ch_contract.specs.Like.{IsHierarchyLike, given_count as count_of};
@@ -83,6 +84,17 @@ impl From<AllocError> for LikeError {
     }
 }
 
+impl From<OrderError> for LikeError {
+    ghost from_gives = { λ refused error. error ≡ like_error refused };
+
+    fn from(refused: OrderError) -> LikeError {
+        match refused {
+            OrderError::Order => LikeError::Order,
+            OrderError::NoMemory => LikeError::NoMemory,
+        }
+    }
+}
+
 /// Builds the contraction hierarchy of a graph in an order like a given one, where a witness has at most `hops` legs.
 /// It serves new weights on roads whose order is known, because priorities are most of the work of building.
 ///
@@ -114,11 +126,7 @@ pub fn build_like<R: Threads + Sync, G: Gate>(
     ensures limits { IsWithinLimits graph.now }
 {
     ask_ahead(crew.alloc, graph)?;
-    let (first, others) = match split_given(crew.alloc, graph, given, fresh) {
-        Ok(parts) => parts,
-        Err(OrderError::Order) => return Err(LikeError::Order),
-        Err(OrderError::NoMemory) => return Err(LikeError::NoMemory),
-    };
+    let (first, others) = split_given(crew.alloc, graph, given, fresh)?;
     let begun = Construction::after_uncrowded(crew.alloc, crew.gate, graph, first, hops)?;
     let by = OrderBy::Depth;
     Ok(contract_begun(crew, graph, begun, first, others, hops, by)?)

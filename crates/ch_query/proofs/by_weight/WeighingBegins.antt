@@ -16,7 +16,7 @@ use Rattle.ch_query.specs.Search.{IsSettled}
 use Rattle.ch_query.specs.Underway.{IsTouched}
 use Rattle.ch_query.specs.Weighed.{weighed, IsWeightSearchTo}
 use Rattle.ch_query.specs.Weights.{known_cost, weight_cost, by_state, side_costs, side_keys, source_of, is_idle_on, IsSizedFor}
-use Rattle.ch_query.specs.Weights.{IsWeighingOn, IsCleanFor, HasBegunOn, IsLeastSoFar}
+use Rattle.ch_query.specs.Weights.{IsWeighingOn, IsCleanFor, HasBegunOn, IsLeastSoFar, IsUnsettled}
 use Rattle.ch_query.proofs.one_side.Begun.{begun_search, begun_fresh}
 use Rattle.ch_query.proofs.one_side.Expanding.{rows_size}
 use Rattle.ch_query.proofs.one_side.WeighedPaths.{weighed_levelled}
@@ -181,3 +181,8 @@ module _ (H : LevelsAndLegs) (k : IsLevelled H) (x z : WeightSearch) (s t : ℕ)
         absurd (side_fresh H k x z clean Up (end_of Up) (end_within Up) (source_is Up) small sizes (costs_then Up) (keys_then Up) v a up);
     found = λ lt. absurd (omega arith);
   }
+
+  -- no state is settled yet
+  pub weighing_fresh : IsUnsettled H z
+  weighing_fresh side =
+      side_fresh H k x z clean side (end_of side) (end_within side) (source_is side) small sizes (costs_then side) (keys_then side)

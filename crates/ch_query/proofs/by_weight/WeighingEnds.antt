@@ -20,7 +20,7 @@ use Rattle.ch_query.proofs.by_weight.States.{by_state-some, key_weight}
 module _ (H : LevelsAndLegs) (k : IsKeptForSome H) (x : WeightSearch) (least : ℕ) (s : IsLeastSoFar H x least)
     (past : AreKeysFrom x.queue least) where
   -- each side is a search of all paths
-  all_paths : (side : Side) → IsWeightSearch H side (source_of x side) (side_costs H side x) (side_keys H side x)
+  pub all_paths : (side : Side) → IsWeightSearch H side (source_of x side) (side_costs H side x) (side_keys H side x)
   all_paths side = subst (λ m. IsWeightSearchTo m H side (source_of x side) (side_costs H side x) (side_keys H side x))
       s.weighing.most (s.weighing.sides side).search
 

@@ -22,7 +22,7 @@ use Rattle.ch_query.specs.Underway.{IsTouched}
 use Rattle.ch_query.specs.Weighed.{weighed, weighed_leg, IsWeightSearchTo}
 use Rattle.ch_query.specs.Weights.{known_cost, weight_cost, by_state, side_costs, side_keys, source_of, is_idle_on, IsSizedFor}
 use Rattle.ch_query.specs.Weights.{IsWeighingOn, IsSameWeighing, IsSameSide, HasGoneOn, count_unsettled_on, ShowsWeight}
-use Rattle.ch_query.specs.Weights.{IsPartlyWeighed}
+use Rattle.ch_query.specs.Weights.{IsWeighingAt, IsPartlyWeighed}
 use Rattle.ch_query.proofs.one_side.Steps.{lowered, lowered_settled, lowered_stays, lowered_keeps, lowered_relaxes, lowered_counts}
 use Rattle.ch_query.proofs.one_side.Steps.{expanded}
 use Rattle.ch_query.proofs.by_weight.Known.{light_cost, known_weight}
@@ -146,6 +146,19 @@ module _ (H : LevelsAndLegs) (side : Side) (x y z : WeightSearch) (v weight : �
       (lowered_settled _ _ _ _ _ v (weight_cost weight) s l has low lower)
       (lowered_stays _ _ _ _ _ v (weight_cost weight) s l has low lower)
       (lowered_counts _ _ _ _ _ v (weight_cost weight) s l has low lower)
+
+-- before the first leg the search is the same
+pub partly_none : (H : LevelsAndLegs) (side : Side) (x : WeightSearch) (v weight : ℕ) → IsWeighingAt H side x v weight →
+    IsPartlyWeighed H side x x v weight []
+partly_none H side x v weight w = record {
+  same = record { start = refl; end = refl; most = refl };
+  weighing = w;
+  relaxed = λ l has. absurd (let lt = has.1 in omega arith);
+  there = record { costs = refl; keys = refl };
+  settled = λ u c is. is;
+  stays = λ u c is. is;
+  measure = refl;
+}
 
 -- the leg at place i is taken
 pub partly_more : (H : LevelsAndLegs) (side : Side) (x y z : WeightSearch) (v weight i : ℕ) (r : RankedLeg) (l : Leg) (state : ℕ) →

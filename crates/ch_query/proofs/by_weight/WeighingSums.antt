@@ -58,7 +58,7 @@ sum_up H x Up e sum = sum
 sum_up H x Down e (v, a, b, here, there, is) = (v, b, a, there, here, omega arith)
 
 -- the least sum is at most each settled sum, seen from either side
-seen_from : (H : LevelsAndLegs) (x : WeightSearch) (least : ℕ) → IsLeastSoFar H x least → (side : Side) (u : ℕ) (a b : Cost) →
+pub seen_from : (H : LevelsAndLegs) (x : WeightSearch) (least : ℕ) → IsLeastSoFar H x least → (side : Side) (u : ℕ) (a b : Cost) →
     IsSettled (side_costs H side x) (side_keys H side x) u a →
     IsSettled (side_costs H (other side) x) (side_keys H (other side) x) u b → least ≤ a.weight + b.weight
 seen_from H x least s Up u a b here there = s.seen u a b here there
@@ -74,7 +74,7 @@ seen_up H z least Up seen u a b up down = seen u a b up down
 seen_up H z least Down seen u a b up down = let le = seen u b a down up in omega arith
 
 -- each side is this side or the other
-each_side : (side : Side) (P : Side → Type 0) → P side → P (other side) → (s : Side) → P s
+pub each_side : (side : Side) (P : Side → Type 0) → P side → P (other side) → (s : Side) → P s
 each_side Up P here there Up = here
 each_side Up P here there Down = there
 each_side Down P here there Up = there
@@ -91,11 +91,11 @@ module _ (H : LevelsAndLegs) (x z : WeightSearch) (least : ℕ) (s : IsLeastSoFa
     (within : v < nodes_of H) (is : state ≡ state_of side (rank_of H v))
     (l : IsLeastState x.queue (weight, state)) (g : HasGoneOn H side (without_state x state) z) where
   -- the search has the same ends and the same limit
-  same : IsSameWeighing x z
+  pub same : IsSameWeighing x z
   same = record { start = g.same.start; end = g.same.end; most = g.same.most }
 
   -- the other side stays the same
-  other_side : IsSameSide H (other side) x z
+  pub other_side : IsSameSide H (other side) x z
   other_side =
       record { costs = g.there.costs; keys = g.there.keys ∙ (pop_there H side x (s.weighing.sides side) v weight state within is l).keys }
 
@@ -124,7 +124,7 @@ module _ (H : LevelsAndLegs) (x z : WeightSearch) (least : ℕ) (s : IsLeastSoFa
   -- the other side knows v at the weight `there`, or not at all, and `now` is the new least sum
   module _ (there : ℕ) (at_there : there ≡ get_or x.known.items (state_of (other side) (rank_of H v)) UNREACHED)
       (now : ℕ) (low : now ≤ least) (sum : now ≤ weight + there) (either : (now ≡ least) ⊎ (now ≡ weight + there)) where
-    known_there : cost_at (side_costs H (other side) x) v ≡ known_cost there
+    pub known_there : cost_at (side_costs H (other side) x) v ≡ known_cost there
     known_there = by_state-at known_cost H (other side) x.known.items UNREACHED None v within ∙ ap known_cost (sym at_there)
 
     -- the new sum is at most that of each node that both sides have settled

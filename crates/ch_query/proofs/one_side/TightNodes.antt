@@ -41,7 +41,7 @@ least_meeting_turned H s t c h = record {
 }
 
 -- if s reaches a node upwards, a walk leads there
-walk_up : (H : LevelsAndLegs) (k : IsKeptForSome H) (s m : ℕ) (a : Cost) → IsUpwardCost H.up s m a → IsWalkCost k.0 s m a
+pub walk_up : (H : LevelsAndLegs) (k : IsKeptForSome H) (s m : ℕ) (a : Cost) → IsUpwardCost H.up s m a → IsWalkCost k.0 s m a
 walk_up H k s m a r = subst (IsWalkCost k.0 s m) r.path.2 ((kept_has_walks k.0 H k.1 k.2).rises s m r.path.0 r.path.1)
 
 -- if t reaches a node along the down rows, a walk leads from there to t

@@ -21,7 +21,7 @@ use Rattle.ch_query.specs.Meeting.{AreMeeting}
 use Rattle.ch_query.specs.Routes.{IsRoute, IsRouteBy}
 use Rattle.ch_query.specs.Descents.{HasReached, HasReachedWithRoom, IsTraced}
 use Rattle.ch_query.specs.Unpacking.{ArePending, pending_arcs}
-use Rattle.ch_query.specs.Ways.{AreLegsFound, AreLegsOver}
+use Rattle.ch_query.specs.Ways.{AreLegsFound, AreLegsOver, AreWayLegs, IsRouteOf}
 use Rattle.ch_query.proofs.two_sides.Distances.{meet_is_least}
 use Rattle.ch_query.proofs.two_sides.LeastMeeting.{reached}
 use Rattle.ch_query.proofs.routing.PendingLegs.{pending_few, pending_unpacked}
@@ -140,6 +140,23 @@ module _ (H : LevelsAndLegs) (k : IsKeptForSome H) (x y : Search) (m : ℕ) (c :
         route = λ arcs are. route_found H x y sides.0 sides.1 m c meet fallen.items turned.items all.items
             (subst (λ old. IsTraced H y m old fallen.items) none fall) turn_is rise arcs are;
       }
+
+-- the arcs of the legs of a way are the route
+pub way_route : (H : LevelsAndLegs) (s t weight : ℕ) (c : Cost) (legs : List PendingLeg) → c.weight ≡ weight → AreWayLegs H s t c legs →
+    (r : Result (Option Route) AllocError) → IfOk r (IsRouteOf H weight legs) → IfOk r (FindsRoute H s t)
+way_route H s t weight c legs is way r found = IfOk-weaker r (IsRouteOf H weight legs) (FindsRoute H s t)
+    (λ answer f. (
+      record { weight = weight; arcs = f.0 },
+      f.2,
+      subst (λ w. IsRoute H s t (record { weight = w; arcs = f.0 })) is (way.route f.0 f.1),
+    )) found
+
+-- the legs of a way, and the arcs that they stand for, are those of the route
+pub way_found : (H : LevelsAndLegs) → IsKeptForSome H → (s t : ℕ) (c : Cost) (legs : List PendingLeg) → AreWayLegs H s t c legs →
+    AreLegsFound H s t true legs
+way_found H k s t c legs way =
+    let arcs = pending_unpacked H k legs way.pending in
+    (Some (record { weight = c.weight; arcs = arcs.0 }), refl, (way.route arcs.0 arcs.1, way.pending, arcs.1))
 
 -- the legs of a way over a meet, and the arcs that they stand for, are those of the route
 pub legs_found : (H : LevelsAndLegs) → IsKeptForSome H → (s t : ℕ) (c : Cost) (legs : Vec PendingLeg Global) → AreLegsOver H s t c legs →

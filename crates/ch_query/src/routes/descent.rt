@@ -9,7 +9,7 @@ use crate::sides::search::Search;
 use ch_hierarchy::{Hierarchy, Leg, Side};
 
 /// Returns the leg of a step up from `low` on this side, in the direction of the walk.
-fn directed(side: Side, low: u32, leg: Leg) -> PendingLeg
+pub(super) fn directed(side: Side, low: u32, leg: Leg) -> PendingLeg
     ensures { result ≡ pending_of side (record { low = low; leg = leg }) }
 {
     match side {

@@ -1,5 +1,5 @@
 //! The route between two nodes.
-ghost use Rattle.std.specs.Prelude.{◌≡◌, ◌<◌, length, IfOk, MatchOption, Some, ⊤};
+ghost use Rattle.std.specs.Prelude.{◌≡◌, ◌^◌, ◌<◌, length, IfOk, MatchOption, Some, ⊤};
 ghost use Rattle.ch_hierarchy.specs.Hierarchy.{nodes_of};
 ghost use Rattle.ch_hierarchy.specs.Paths.{IsMeet, NeverMeets};
 ghost use Rattle.ch_hierarchy.specs.declared.side.Side.TheVariants.{Up, Down};
@@ -9,10 +9,13 @@ ghost use Rattle.ch_query.specs.Underway.{IsRoom, IsClean};
 ghost use Rattle.ch_query.specs.Meeting.{AreMeeting};
 ghost use Rattle.ch_query.specs.Distance.{IsKeptForSome};
 ghost use Rattle.ch_query.specs.Routes.{IsRoute, IsRouteBy};
+ghost use Rattle.ch_query.specs.Unpacking.{ArePending, pending_arcs};
+ghost use Rattle.ch_query.specs.Ways.{IsRouteOf};
 
 use super::Route;
-use super::unpacking::unpack;
-use super::way::legs_over;
+use super::unique::FirstTry;
+use super::unpacking::{PendingLeg, count_arcs, unpack};
+use super::way::{first_try, legs_over};
 use crate::scratch::Scratch;
 use crate::sides::Sides;
 use crate::sides::meeting::meet;
@@ -24,18 +27,62 @@ use std::alloc::{AllocError, Global};
 /// Returns the route from `start` to `end`, or `None` if there is no walk. The hierarchy is right for some
 /// graph, and the scratch has room for its number of nodes.
 ///
-/// It is a walk of least weight, and of these of the fewest arcs. Two searches go by weight and then by
-/// arcs, and the route leads over the node where they meet. At each choice it takes the least numbered
-/// node.
+/// It is a walk of least weight, and of these of the fewest arcs. A search by weights alone finds it if no other path of the
+/// hierarchy has the least weight. Otherwise two searches go by weight and then by arcs, and the route leads over the node
+/// where they meet. At each choice it takes the least numbered node.
 ///
 /// Each shortcut is unpacked into the two legs of its middle (Geisberger, Sanders, Schultes and Delling
 /// 2008). After the search, memory and steps grow with the number of its arcs, not with the number of
 /// nodes.
 ///
 /// # Errors
-/// `AllocError` if there is no memory for the arcs, or for the two sides of a scratch that has none yet.
-/// The scratch can still be used.
+/// `AllocError` if there is no memory for the legs and the arcs, or for the marks or the two sides of a scratch that has none
+/// yet. The scratch can still be used.
 pub fn route(
+    alloc: Global,
+    hierarchy: &Hierarchy,
+    scratch: &mut Scratch,
+    start: u32,
+    end: u32,
+) -> Result<Option<Route>, AllocError>
+    requires kept { IsKeptForSome hierarchy.now }
+    requires scratch { scratch.old ≡ nodes_of hierarchy.now }
+    requires start { start < nodes_of hierarchy.now }
+    requires end { end < nodes_of hierarchy.now }
+    ensures route { IfOk result (λ answer. MatchOption answer (NeverMeets hierarchy.now start end) (IsRoute hierarchy.now start end)) }
+    ensures walk { IfOk result (IsRouteBy hierarchy.now start end) }
+    ensures few { IfOk result (λ answer. MatchOption answer ⊤ (λ route. length route.arcs < nodes_of hierarchy.now)) }
+    ensures scratch { scratch.new ≡ scratch.old }
+{
+    let mut legs = Vec::new(alloc);
+    match first_try(alloc, hierarchy, scratch, start, end, &mut legs)? {
+        FirstTry::NoWalk => Ok(None),
+        FirstTry::Unique(weight) => route_of(alloc, hierarchy, weight, &mut legs),
+        FirstTry::Tied => chosen_route(alloc, hierarchy, scratch, start, end),
+    }
+}
+
+/// Returns the route of this weight that has these legs. Afterwards no leg is left.
+fn route_of(
+    alloc: Global,
+    hierarchy: &Hierarchy,
+    weight: u64,
+    legs: &mut Vec<PendingLeg>,
+) -> Result<Option<Route>, AllocError>
+    requires kept { IsKeptForSome hierarchy.now }
+    requires legs { ArePending hierarchy.now legs.old.items }
+    requires few { pending_arcs legs.old.items < 2 ^ 32 }
+    ensures { IfOk result (IsRouteOf hierarchy.now weight legs.old.items) }
+{
+    let count = count_arcs(legs);
+    legs.reserve(count)?;
+    let mut arcs = Vec::with_capacity(alloc, count)?;
+    unpack(hierarchy, legs, &mut arcs);
+    Ok(Some(Route { weight, arcs }))
+}
+
+/// Returns the route, as [`route`] does, by two searches by cost, which choose among paths of least weight.
+fn chosen_route(
     alloc: Global,
     hierarchy: &Hierarchy,
     scratch: &mut Scratch,

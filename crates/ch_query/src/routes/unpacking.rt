@@ -1,7 +1,7 @@
 //! Legs replaced by the arcs that they stand for.
-ghost use Rattle.std.specs.Prelude.{◌≡◌, ◌+◌, ◌≤◌, vec_len, vec_capacity, Some};
+ghost use Rattle.std.specs.Prelude.{◌≡◌, ◌+◌, ◌^◌, ◌<◌, ◌≤◌, vec_len, vec_capacity, Some};
 ghost use Rattle.ch_query.specs.Distance.{IsKeptForSome};
-ghost use Rattle.ch_query.specs.Unpacking.{IsPending, ArePending, HasRoomToUnpack, ArePendingArcs, IsSplit};
+ghost use Rattle.ch_query.specs.Unpacking.{IsPending, ArePending, HasRoomToUnpack, ArePendingArcs, IsSplit, pending_arcs};
 
 use super::legs::leg_at;
 use ch_graph::{Cost, InArc};
@@ -32,6 +32,18 @@ impl PendingLeg {
             middle: leg.middle,
         }
     }
+}
+
+/// Returns the number of arcs that the legs stand for.
+pub(super) fn count_arcs(legs: &[PendingLeg]) -> usize
+    requires { pending_arcs legs.now < 2 ^ 32 }
+    ensures { result ≡ pending_arcs legs.now }
+{
+    let mut arcs = 0;
+    for leg in legs {
+        arcs += leg.cost.arcs as usize;
+    }
+    arcs
 }
 
 /// Appends the arcs that the legs stand for, from the last leg on. Afterwards no leg is left.

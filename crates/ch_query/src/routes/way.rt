@@ -6,10 +6,11 @@ ghost use Rattle.ch_hierarchy.specs.declared.side.Side.TheVariants.{Up, Down};
 ghost use Rattle.ch_query.specs.TwoSided.{IsPast};
 ghost use Rattle.ch_query.specs.Meeting.{AreMeeting};
 ghost use Rattle.ch_query.specs.Distance.{IsKeptForSome};
-ghost use Rattle.ch_query.specs.Ways.{AreLegsFound, AreLegsOver};
+ghost use Rattle.ch_query.specs.Ways.{AreLegsFound, AreLegsOver, IsFirstTry};
 
 use super::descent::descend;
 use super::query::clean;
+use super::unique::{FirstTry, try_weights};
 use super::unpacking::PendingLeg;
 use crate::scratch::Scratch;
 use crate::sides::Sides;
@@ -28,6 +29,68 @@ use std::alloc::{AllocError, Global};
 /// `AllocError` if there is no memory for the legs, or for the two sides of a scratch that has none yet.
 /// The scratch can still be used.
 pub fn route_legs(
+    alloc: Global,
+    hierarchy: &Hierarchy,
+    scratch: &mut Scratch,
+    start: u32,
+    end: u32,
+    legs: &mut Vec<PendingLeg>,
+) -> Result<bool, AllocError>
+    requires kept { IsKeptForSome hierarchy.now }
+    requires scratch { scratch.old ≡ nodes_of hierarchy.now }
+    requires start { start < nodes_of hierarchy.now }
+    requires end { end < nodes_of hierarchy.now }
+    ensures legs { IfOk result (λ found. AreLegsFound hierarchy.now start end found legs.new.items) }
+    ensures scratch { scratch.new ≡ scratch.old }
+{
+    match first_try(alloc, hierarchy, scratch, start, end, legs)? {
+        FirstTry::NoWalk => Ok(false),
+        FirstTry::Unique(_) => Ok(true),
+        FirstTry::Tied => chosen_legs(alloc, hierarchy, scratch, start, end, legs),
+    }
+}
+
+/// Lists the legs by a search by weights alone, if no other path has the least weight. Where most of these searches met ties
+/// it does not search, and the answer is a tie.
+///
+/// # Errors
+/// `AllocError` if there is no memory for the legs, or for the marks of a scratch that has none yet. The scratch can still
+/// be used.
+pub(super) fn first_try(
+    alloc: Global,
+    hierarchy: &Hierarchy,
+    scratch: &mut Scratch,
+    start: u32,
+    end: u32,
+    legs: &mut Vec<PendingLeg>,
+) -> Result<FirstTry, AllocError>
+    requires kept { IsKeptForSome hierarchy.now }
+    requires scratch { scratch.old ≡ nodes_of hierarchy.now }
+    requires start { start < nodes_of hierarchy.now }
+    requires end { end < nodes_of hierarchy.now }
+    ensures legs { IfOk result (λ first. IsFirstTry hierarchy.now start end first legs.new.items) }
+    ensures scratch { scratch.new ≡ scratch.old }
+{
+    if !scratch.tries.is_due() {
+        return Ok(FirstTry::Tied);
+    }
+    let mut marks = scratch.take_marks(alloc)?;
+    let first = try_weights(
+        hierarchy,
+        &mut scratch.weights,
+        marks.as_mut_slice(),
+        start,
+        end,
+        legs,
+    );
+    scratch.put_marks(marks);
+    let first = first?;
+    scratch.tries.note(matches!(first, FirstTry::Tied));
+    Ok(first)
+}
+
+/// Lists the legs, as [`route_legs`] does, by two searches by cost, which choose among paths of least weight.
+fn chosen_legs(
     alloc: Global,
     hierarchy: &Hierarchy,
     scratch: &mut Scratch,

@@ -11,7 +11,7 @@ ghost use Rattle.ch_graph.specs.declared.limits.TheConstants.{MOST_WEIGHT};
 ghost use Rattle.ch_hierarchy.specs.Hierarchy.{nodes_of, IsLevelled};
 ghost use Rattle.ch_query.specs.Distance.{IsKeptForSome, IsLeastWeight};
 ghost use Rattle.ch_query.specs.Underway.{IsTouched};
-ghost use Rattle.ch_query.specs.Weights.{known_cost, is_idle_on, weight_cost, source_of, IsSizedFor, IsWeighingAt, IsSameWeighing, UnreachedStateIsUnkeyed, HasGoneOn, ShowsWeight, AtRank, IsCleanFor, IsLeastSoFar, IsLeastState, AreKeysFrom, count_unsettled_states, without_state};
+ghost use Rattle.ch_query.specs.Weights.{known_cost, is_idle_on, weight_cost, source_of, IsSizedFor, IsWeighingAt, IsSameWeighing, UnreachedStateIsUnkeyed, HasGoneOn, ShowsWeight, AtRank, IsCleanFor, IsLeastSoFar, IsUnsettled, IsLeastState, AreKeysFrom, count_unsettled_states, without_state};
 
 use ch_graph::UNREACHED;
 use ch_graph::limits::MOST_WEIGHT;
@@ -111,7 +111,13 @@ impl WeightSearch {
     /// Whether a leg from a higher node shows a way to the node of this rank that weighs less than
     /// `weight`.
     #[inline]
-    fn is_stalled(&self, hierarchy: &Hierarchy, side: Side, rank: u32, weight: u64) -> bool
+    pub(super) fn is_stalled(
+        &self,
+        hierarchy: &Hierarchy,
+        side: Side,
+        rank: u32,
+        weight: u64,
+    ) -> bool
         requires rank { rank < nodes_of hierarchy.now }
         requires weighing { AtRank hierarchy.now rank (λ v. IsWeighingAt hierarchy.now side self.now v weight) }
         ensures levelled { IsLevelled hierarchy.now }
@@ -149,7 +155,7 @@ impl WeightSearch {
 
     /// Takes out the state of least weight, if that weight is less than `limit`.
     #[inline]
-    fn pop_below(&mut self, limit: u64) -> Option<(u64, u32)>
+    pub(super) fn pop_below(&mut self, limit: u64) -> Option<(u64, u32)>
         ensures { MatchOption result (AreKeysFrom self.old.queue limit × (self.new ≡ self.old)) (λ e. IsLeastState self.old.queue e × (e.0 < limit) × (self.new ≡ without_state self.old e.1)) }
     {
         let (weight, _) = self.queue.least()?;
@@ -180,11 +186,12 @@ impl WeightSearch {
     }
 
     /// Puts both ends into a clean search.
-    fn begin(&mut self, hierarchy: &Hierarchy, start: u32, end: u32)
+    pub(super) fn begin(&mut self, hierarchy: &Hierarchy, start: u32, end: u32)
         requires clean { IsCleanFor (nodes_of hierarchy.now) self.old }
         requires start { start < nodes_of hierarchy.now }
         requires end { end < nodes_of hierarchy.now }
         ensures least { IsLeastSoFar hierarchy.now self.new UNREACHED }
+        ensures unsettled { IsUnsettled hierarchy.now self.new }
         ensures start { self.new.start ≡ start }
         ensures end { self.new.end ≡ end }
     {

@@ -1,5 +1,5 @@
 -- One more leg to the node is counted only if it comes from a near node.
-use Rattle.std.proofs.Common.{get_or, subst, ◌<◌, ◌*◌, sym}
+use Rattle.std.proofs.Common.{get_or, subst, ◌<◌, ◌*◌}
 use Rattle.ch_hierarchy.proofs.theory.NoLeg.{no_leg}
 use Rattle.ch_contract.specs.Near.{seen_from}
 use Rattle.ch_contract.specs.Remaining.{legs_of}

@@ -1,5 +1,5 @@
 -- Near neighbours have a shortcut for each two of them, so these are at most all shortcuts, and more than the bound.
-use Rattle.std.proofs.Common.{◌≡◌, ◌*◌, ◌-◌, ◌≤◌, ◌^◌, ℕ, length, ap, arith}
+use Rattle.std.proofs.Common.{◌≡◌, ◌*◌, ◌-◌, ◌≤◌, ◌^◌, ap, arith}
 use Rattle.std.proofs.Math.Nat.{mul-le-mul}
 use Rattle.ch_graph.specs.declared.limits.TheConstants.{MOST_NODES}
 use Rattle.ch_contract.specs.Remaining.{legs_of}
@@ -15,8 +15,8 @@ invariant_of-measure c =
     let L = legs_of c.args.self.now in
     let p = c.count_near-first.result in
     let q = c.count_near-second.result in
-    let limits = c.nodes-nodes.ensures.limits in
-    let count = c.nodes-nodes.ensures.count in
+    let limits = c.pairs.ensures.limits in
+    let count = c.pairs.ensures.count in
     let all = shortcuts_listed n 0 L c.args.v limits (leads n L limits) in
     let near = near_shortcuts n L c.args.v 0 p q all.0 c.count_near-first.ensures c.count_near-second.ensures all.1 in
     let most = shortcuts_most n 0 L c.args.v all.0 limits all.1 in
@@ -31,7 +31,7 @@ returns c h =
     let L = legs_of c.args.self.now in
     let p = c.count_near-first.result in
     let q = c.count_near-second.result in
-    let limits = c.nodes-nodes.ensures.limits in
+    let limits = c.pairs.ensures.limits in
     let all = shortcuts_listed n h L c.args.v limits (leads n L limits) in
     let near = near_shortcuts n L c.args.v h p q all.0 c.count_near-first.ensures c.count_near-second.ensures all.1 in
     let others : c.saturating_sub-others.result ≡ q - 1 = c.saturating_sub-others.ensures in

@@ -4,10 +4,10 @@ use Rattle.ch_contract.proofs.theory.GivenOrders.{from_kept}
 use Rattle.ch_order.proofs.construction.like.build_like.Goals as goal
 
 pub returns-clause-hierarchy : goal.returns-clause-hierarchy
-returns-clause-hierarchy g c = rw (c.in-Ok.ensures.first) at c.in_ok-contract_begun.ensures
+returns-clause-hierarchy g c = rw (c.in_ok-first.ensures.first) at c.in_ok-contract_begun.ensures
 
 pub returns-clause-few : goal.returns-clause-few
-returns-clause-few g c = rw (c.in-Ok.ensures.first) at c.in_ok-begun.ensures.few
+returns-clause-few g c = rw (c.in_ok-first.ensures.first) at c.in_ok-begun.ensures.few
 
 pub returns-clause-kept : goal.returns-clause-kept
 returns-clause-kept g c =

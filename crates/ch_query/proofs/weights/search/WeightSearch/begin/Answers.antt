@@ -5,7 +5,7 @@ use Rattle.ch_hierarchy.specs.declared.side.Side.TheVariants.{Up, Down}
 use Rattle.ch_hierarchy.specs.Side.{state_of}
 use Rattle.ch_query.proofs.by_weight.States.{state_apart}
 use Rattle.ch_query.proofs.by_weight.Unreached.{clean_none}
-use Rattle.ch_query.proofs.by_weight.WeighingBegins.{weighing_begun}
+use Rattle.ch_query.proofs.by_weight.WeighingBegins.{weighing_begun, weighing_fresh}
 use Rattle.ch_query.proofs.weights.search.WeightSearch.begin.Goals as goal
 
 pub reach-requires-clause-unkeyed : goal.reach-requires-clause-unkeyed
@@ -30,6 +30,21 @@ returns-clause-least c =
     let queue = second.queue ∙ ap (λ q. set q c.state-2.result (Some 0)) first.queue
     ∙ (λ i. set (set c.args.self.now.queue (from i) (Some 0)) (to i) (Some 0)) in
     weighing_begun c.args.hierarchy.now c.rank.ensures.levelled c.args.self.now _ c.args.start c.args.end c.requires.clean
+    c.requires.start c.requires.end
+    (second.same.start ∙ first.same.start) (second.same.end ∙ first.same.end) (second.same.most ∙ first.same.most) known queue
+    second.touched
+
+pub returns-clause-unsettled : goal.returns-clause-unsettled
+returns-clause-unsettled c =
+    let first = c.reach.ensures in
+    let second = c.reach-2.ensures in
+    let from = c.state.ensures ∙ ap (state_of Up) c.rank.ensures.rank in
+    let to = c.state-2.ensures ∙ ap (state_of Down) c.rank-2.ensures.rank in
+    let known = second.known ∙ ap (λ q. set q c.state-2.result 0) first.known
+    ∙ (λ i. set (set c.args.self.now.known.items (from i) 0) (to i) 0) in
+    let queue = second.queue ∙ ap (λ q. set q c.state-2.result (Some 0)) first.queue
+    ∙ (λ i. set (set c.args.self.now.queue (from i) (Some 0)) (to i) (Some 0)) in
+    weighing_fresh c.args.hierarchy.now c.rank.ensures.levelled c.args.self.now c.reach-2.new.self c.args.start c.args.end c.requires.clean
     c.requires.start c.requires.end
     (second.same.start ∙ first.same.start) (second.same.end ∙ first.same.end) (second.same.most ∙ first.same.most) known queue
     second.touched

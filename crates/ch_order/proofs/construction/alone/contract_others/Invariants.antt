@@ -2,7 +2,7 @@
 use Rattle.std.proofs.Common.{◌≡◌, ◌-◌}
 use Rattle.ch_order.specs.Construction.{IsSized, IsJudging, progress_of}
 use Rattle.ch_order.proofs.StepsMade.{IsAfterSomeSteps}
-use Rattle.ch_order.proofs.construction.alone.contract_by.Given as goal
+use Rattle.ch_order.proofs.construction.alone.contract_others.Given as goal
 
 abbrev pub invariant-loop-node : goal.invariant-loop-node
 invariant-loop-node l = IsSized l.construction × (l.construction.remaining.nodes ≡ l.graph.nodes) × IsAfterSomeSteps l.keys l.graph

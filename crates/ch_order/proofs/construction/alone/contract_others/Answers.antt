@@ -10,17 +10,17 @@ use Rattle.ch_contract.proofs.theory.GivenNodes.{other_nodes}
 use Rattle.ch_order.proofs.PrioritySteps.{key_within}
 use Rattle.ch_order.proofs.StepsMade.{steps_at_start, steps_next, steps_count, steps_node, steps_at_end}
 use Rattle.ch_order.proofs.StepsMade.{steps_within, steps_depth, steps_levelled}
-use Rattle.ch_order.proofs.construction.alone.contract_by.Goals as goal
+use Rattle.ch_order.proofs.construction.alone.contract_others.Goals as goal
 
 pub rank_alone-requires-clause-nodes : goal.rank_alone-requires-clause-nodes
 rank_alone-requires-clause-nodes c =
-    subst (λ n. All (λ x. x < n) c.args.others.now) (sym c.in_ok-begun.ensures.nodes) (other_nodes _ _ _ c.requires.order)
+    subst (λ n. All (λ x. x < n) c.args.others.now) (sym c.requires.begun.nodes) (other_nodes _ _ _ c.requires.order)
 
 pub loop-node-init : goal.loop-node-init
 loop-node-init c =
     let first = c.in_ok-construction.ensures in
-    let begun = c.in_ok-begun.ensures in
-    let ranked = subst (λ n. IsRanked c.args.keys n c.args.hops.number c.args.others.now (progress_of c.in_ok-begun.begun)
+    let begun = c.requires.begun in
+    let ranked = subst (λ n. IsRanked c.args.keys n c.args.hops.number c.args.others.now (progress_of c.args.begun)
     (progress_of c.in_ok-construction.construction)) begun.nodes first.ranked in (
       first.sizes,
       first.nodes ∙ begun.nodes,
