@@ -6,7 +6,7 @@ use Rattle.ch_hierarchy.specs.Hierarchy.{LevelsAndLegs}
 use Rattle.ch_flows.specs.declared.plan.Link.{Link}
 use Rattle.ch_flows.specs.declared.tree.Tree.{Tree}
 use Rattle.ch_flows.specs.Cells.{AreTargetTrees, IsRowAt, cell_sources, cell_targets}
-use Rattle.ch_flows.specs.Plans.{AreCounted, IsPairAt, IsWayFound}
+use Rattle.ch_flows.specs.Plans.{AreCountedBy, IsPairAt, IsWayFound}
 use Rattle.ch_flows.proofs.Cells.{cell_at, cells_count, row_ends}
 
 pub cell_pair : (H : LevelsAndLegs) (links : List Link) (sources targets demands : List ℕ) (first source : ℕ) (trees : List Tree)
@@ -51,12 +51,13 @@ row_at sources targets demands r first source trees are low at is room c d less 
     )
 
 -- once the rows of all sources are counted, all cells are
-pub all_counted : (H : LevelsAndLegs) (links : List Link) (sources targets demands flows : List ℕ) (r first missed : ℕ)
+pub all_counted : (H : LevelsAndLegs) (links : List Link) (sources targets demands : List ℕ) (total : (ℕ → ℕ) → ℕ) (r first missed : ℕ)
     (trees : List Tree) → AreTargetTrees targets (length targets) trees → r ≡ length sources → first ≡ r * length trees →
-    AreCounted H links (cell_sources sources targets) (cell_targets sources targets) demands first flows missed →
-    AreCounted H links (cell_sources sources targets) (cell_targets sources targets) demands (length (cell_sources sources targets))
-    flows missed
-all_counted H links sources targets demands flows r first missed trees are end at counted =
+    AreCountedBy H links (cell_sources sources targets) (cell_targets sources targets) demands first total missed →
+    AreCountedBy H links (cell_sources sources targets) (cell_targets sources targets) demands (length (cell_sources sources targets))
+    total missed
+all_counted H links sources targets demands total r first missed trees are end at counted =
     let count : first ≡ length (cell_sources sources targets) =
     at ∙ ap (λ (n : ℕ). n * length trees) end ∙ ap (λ (n : ℕ). length sources * n) are.0 ∙ sym (cells_count targets sources) in
-    subst (λ (n : ℕ). AreCounted H links (cell_sources sources targets) (cell_targets sources targets) demands n flows missed) count counted
+    subst (λ (n : ℕ). AreCountedBy H links (cell_sources sources targets) (cell_targets sources targets) demands n total missed) count
+    counted

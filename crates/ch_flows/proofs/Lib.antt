@@ -7,9 +7,13 @@ pub mod Layouts
 pub mod Parts
 pub mod WaysByLegs
 pub mod RouteLegs
+pub mod HeldDemands
+pub mod SumsHanded
 pub mod Trees
+pub mod Branches
 pub mod TreeWays
 pub mod Meetings
+pub mod FoundWays
 pub mod Stops
 pub mod Cells
 pub mod KeptEntries

@@ -1,11 +1,13 @@
 -- Two trees meet where a route does, and the ways back from there make the route.
-use Rattle.std.proofs.Common.{◌≡◌, ℕ, ◌+◌, ◌<◌, ◌≤◌, List, [], ◌++◌, length, get_or, Contains, Some, None, true, false, Option}
+use Rattle.std.proofs.Common.{◌≡◌, ℕ, ◌+◌, ◌<◌, ◌≤◌, List, [], ◌++◌, length, map, Contains, Some, None, true, false, Option}
 use Rattle.std.proofs.Common.{inl, inr, refl, sym, ◌∙◌, ap, subst, arith}
 use Rattle.std.proofs.lemmas.Bool.{cases_lt}
-use Rattle.std.proofs.lemmas.List.{get_or_default}
+use Rattle.std.proofs.lemmas.List.{get_or-map, length-map}
+use Rattle.std.proofs.lemmas.List.Elements.{Contains-get_or}
 use Rattle.ch_graph.specs.declared.cost.Cost.{Cost}
-use Rattle.ch_graph.specs.Cost.{IsAtMost, IsBelow, cost_sum, no_cost}
+use Rattle.ch_graph.specs.Cost.{IsAtMost, IsBelow, cost_sum}
 use Rattle.ch_graph.proofs.CostSums.{cost_sum_comm}
+use Rattle.ch_graph.proofs.Lists.{contains_map}
 use Rattle.ch_graph.proofs.WalkCosts.{IsLeast-IsAtMost}
 use Rattle.ch_graph.proofs.CostOrder.{IsAtMost_antisymm, IsAtMost_refl, IsAtMost_trans, IsBelow-IsAtMost, IsBelow_not}
 use Rattle.ch_hierarchy.specs.Hierarchy.{LevelsAndLegs}
@@ -26,40 +28,45 @@ use Rattle.ch_flows.specs.declared.plan.Link.{Link}
 use Rattle.ch_flows.specs.declared.meeting.Meeting.{Meeting}
 use Rattle.ch_flows.specs.Meetings.{AreShared, IsFirstMeet, IsFirstOf, IsMeetingSoFar, shared_cost}
 use Rattle.ch_flows.specs.Plans.{IsPlan, IsWay, IsWayFound}
-use Rattle.ch_flows.specs.Trees.{AreInOrder, IsOpenSpread, IsWayBack, entry_at}
+use Rattle.ch_flows.specs.declared.tree.Mark.{Mark}
+use Rattle.ch_flows.specs.Trees.{AreMarksInOrder, IsOpenSpread, IsWayBack, mark_at, no_mark, plain}
 use Rattle.ch_flows.proofs.TreeWays.{down_way, up_way}
 use Rattle.ch_flows.proofs.WaysByLegs.{way_joined, way_none}
 
 -- in a list in order each node has one entry
-pub one_entry : (entries : List (ℕ × Cost)) → AreInOrder entries → (i j : ℕ) → i < length entries → j < length entries →
-    (entry_at entries i).0 ≡ (entry_at entries j).0 → i ≡ j
+one_entry : (entries : List (ℕ × Mark)) → AreMarksInOrder entries → (i j : ℕ) → i < length entries → j < length entries →
+    (mark_at entries i).0 ≡ (mark_at entries j).0 → i ≡ j
 one_entry entries order i j low below same = elim (cases_lt i j) [
-  | inl less ↦ absurd (let rise = order i j (0, no_cost) less below in omega (arith, rise, same))
+  | inl less ↦ absurd (let rise = order i j (0, no_mark) less below in omega (arith, rise, same))
   | inr more ↦ elim (cases_lt j i) [
-    | inl less ↦ absurd (let rise = order j i (0, no_cost) less low in omega (arith, rise, same))
+    | inl less ↦ absurd (let rise = order j i (0, no_mark) less low in omega (arith, rise, same))
     | inr fewer ↦ omega (arith, more, fewer)
   ]
 ]
 
-module _ (ups downs : List (ℕ × Cost)) (n : ℕ) (rise : AreInOrder ups) (order : AreInOrder downs) (low : n < length ups) where
+module _ (ups downs : List (ℕ × Mark)) (n : ℕ) (rise : AreMarksInOrder ups) (order : AreMarksInOrder downs) (low : n < length ups) where
   -- an entry of the other list at the node of entry n
-  module _ (k : ℕ) (inside : k < length downs) (node : (entry_at downs k).0 ≡ (entry_at ups n).0) where
+  module _ (k : ℕ) (inside : k < length downs) (node : (mark_at downs k).0 ≡ (mark_at ups n).0) where
     abbrev pub new : Meet
-    new = record { node = (entry_at ups n).0; cost = shared_cost ups downs n k }
+    new = record {
+      cost = shared_cost ups downs n k;
+      up = (mark_at ups n).1.spot;
+      down = (mark_at downs k).1.spot;
+    }
 
     -- it is the only one at this node
     own : (i j : ℕ) → AreShared ups downs (n + 1) i j → n ≤ i → (i ≡ n) × (j ≡ k)
     own i j shared more =
         let same : i ≡ n = omega (arith, more, shared.0) in
-        (same, one_entry downs order j k shared.1 inside (sym shared.2 ∙ ap (λ (m : ℕ). (entry_at ups m).0) same ∙ sym node))
+        (same, one_entry downs order j k shared.1 inside (sym shared.2 ∙ ap (λ (m : ℕ). (mark_at ups m).0) same ∙ sym node))
 
     own_cost : (i j : ℕ) → (i ≡ n) × (j ≡ k) → shared_cost ups downs i j ≡ new.cost
     own_cost i j is =
-        ap (λ (m : ℕ). cost_sum (entry_at ups m).1 (entry_at downs j).1) is.0
-        ∙ ap (λ (m : ℕ). cost_sum (entry_at ups n).1 (entry_at downs m).1) is.1
+        ap (λ (m : ℕ). cost_sum (mark_at ups m).1.cost (mark_at downs j).1.cost) is.0
+        ∙ ap (λ (m : ℕ). cost_sum (mark_at ups n).1.cost (mark_at downs m).1.cost) is.1
 
-    own_node : (i : ℕ) → i ≡ n → (entry_at ups i).0 ≡ new.node
-    own_node i same = ap (λ (m : ℕ). (entry_at ups m).0) same
+    own_node : (i : ℕ) → i ≡ n → (mark_at ups i).0 ≡ (mark_at ups n).0
+    own_node i same = ap (λ (m : ℕ). (mark_at ups m).0) same
 
     -- it was not seen before
     pub meet_goes_on : (old result : Meeting) → IsMeetingSoFar ups downs n old → IsFirstOf old new result →
@@ -69,8 +76,9 @@ module _ (ups downs : List (ℕ × Cost)) (n : ℕ) (rise : AreInOrder ups) (ord
       here = n;
       there = k;
       is = (omega arith, inside, sym node);
-      node = refl;
       cost = refl;
+      up = refl;
+      down = refl;
       least = λ i j shared. elim (cases_lt i n) [
         | inl less ↦ absurd (before i j (less, shared.1, shared.2))
         | inr more ↦ (
@@ -82,8 +90,9 @@ module _ (ups downs : List (ℕ × Cost)) (n : ℕ) (rise : AreInOrder ups) (ord
       here = n;
       there = k;
       is = (omega arith, inside, sym node);
-      node = refl;
       cost = refl;
+      up = refl;
+      down = refl;
       least = λ i j shared. elim (cases_lt i n) [
         | inl less ↦ (
             let most = before.least i j (less, shared.1, shared.2) in (
@@ -99,15 +108,16 @@ module _ (ups downs : List (ℕ × Cost)) (n : ℕ) (rise : AreInOrder ups) (ord
       here = before.here;
       there = before.there;
       is = (omega (arith, before.is.0), before.is.1, before.is.2);
-      node = before.node;
       cost = before.cost;
+      up = before.up;
+      down = before.down;
       least = λ i j shared. elim (cases_lt i n) [
         | inl less ↦ before.least i j (less, shared.1, shared.2)
         | inr more ↦ (
             let at = own i j shared more in
-            let lower : (entry_at ups before.here).0 < (entry_at ups n).0 = rise before.here n (0, no_cost) before.is.0 low in (
+            let lower : (mark_at ups before.here).0 < (mark_at ups n).0 = rise before.here n (0, no_mark) before.is.0 low in (
               subst (IsAtMost old.cost) (sym (own_cost i j at)) is.1,
-              λ same. omega (arith, own_node i at.0, before.node, lower),
+              λ same. omega (arith, own_node i at.0, lower),
             ))
       ];
     })
@@ -122,31 +132,32 @@ module _ (ups downs : List (ℕ × Cost)) (n : ℕ) (rise : AreInOrder ups) (ord
     meet_again (Meeting.At old) result before (inr is) = subst (IsMeetingSoFar ups downs (n + 1)) (sym is.0) before
 
   -- the other list has no entry at the node of entry n
-  pub meet_stays : ((j : ℕ) → j < length downs → (entry_at downs j).0 ≡ (entry_at ups n).0 → ⊥) → (old : Meeting) →
+  pub meet_stays : ((j : ℕ) → j < length downs → (mark_at downs j).0 ≡ (mark_at ups n).0 → ⊥) → (old : Meeting) →
       IsMeetingSoFar ups downs n old → IsMeetingSoFar ups downs (n + 1) old
   meet_stays none Meeting.Unknown before = tt
   meet_stays none Meeting.Nowhere before = λ i j shared. elim (cases_lt i n) [
     | inl less ↦ before i j (less, shared.1, shared.2)
     | inr more ↦ (
         let same : i ≡ n = omega (arith, more, shared.0) in
-        none j shared.1 (sym shared.2 ∙ ap (λ (m : ℕ). (entry_at ups m).0) same))
+        none j shared.1 (sym shared.2 ∙ ap (λ (m : ℕ). (mark_at ups m).0) same))
   ]
   meet_stays none (Meeting.At meet) before = record {
     here = before.here;
     there = before.there;
     is = (omega (arith, before.is.0), before.is.1, before.is.2);
-    node = before.node;
     cost = before.cost;
+    up = before.up;
+    down = before.down;
     least = λ i j shared. elim (cases_lt i n) [
       | inl less ↦ before.least i j (less, shared.1, shared.2)
       | inr more ↦ absurd (
           let same : i ≡ n = omega (arith, more, shared.0) in
-          none j shared.1 (sym shared.2 ∙ ap (λ (m : ℕ). (entry_at ups m).0) same))
+          none j shared.1 (sym shared.2 ∙ ap (λ (m : ℕ). (mark_at ups m).0) same))
     ];
   }
 
-module _ (H : LevelsAndLegs) (k : IsKeptForSome H) (s t : ℕ) (ups downs : List (ℕ × Cost)) (up : IsOpenSpread H.up H.down s ups)
-    (down : IsOpenSpread H.down H.up t downs) where
+module _ (H : LevelsAndLegs) (k : IsKeptForSome H) (s t : ℕ) (ups downs : List (ℕ × Mark)) (up : IsOpenSpread H.up H.down s (map plain ups))
+    (down : IsOpenSpread H.down H.up t (map plain downs)) where
   -- least meetings are distances
   law : MeetingsAreDistances k.0 H
   law = meetings_are_distances k.0 H k.1 k.2
@@ -156,21 +167,28 @@ module _ (H : LevelsAndLegs) (k : IsKeptForSome H) (s t : ℕ) (ups downs : List
     i : ℕ
     j : ℕ
     shared : AreShared ups downs (length ups) i j
-    node : (entry_at ups i).0 ≡ m
+    node : (mark_at ups i).0 ≡ m
     cost : shared_cost ups downs i j ≡ cost_sum a b
 
-  at_node : (m : ℕ) (a b : Cost) → Contains ups (m, a) → Contains downs (m, b) → AreAt m a b
+  -- an entry by its place
+  entry_of : (list : List (ℕ × Mark)) (m : ℕ) (a : Cost) (has : Contains (map plain list) (m, a)) →
+      (has.0 < length list) × (plain (mark_at list has.0) ≡ (m, a))
+  entry_of list m a has =
+      let low : has.0 < length list = omega (arith, has.1, length-map list plain) in
+      (low, sym (get_or-map plain list has.0 (0, no_mark) (m, a) low) ∙ has.2)
+
+  at_node : (m : ℕ) (a b : Cost) → Contains (map plain ups) (m, a) → Contains (map plain downs) (m, b) → AreAt m a b
   at_node m a b here there =
-      let e : entry_at downs there.0 ≡ (m, b) = get_or_default downs there.0 (0, no_cost) (m, b) there.1 ∙ there.2 in
-      let f : entry_at ups here.0 ≡ (m, a) = get_or_default ups here.0 (0, no_cost) (m, a) here.1 ∙ here.2 in
-      let next : (entry_at downs there.0).0 ≡ m = ap (λ (p : ℕ × Cost). p.0) e in
-      let node : (entry_at ups here.0).0 ≡ m = ap (λ (p : ℕ × Cost). p.0) f in
+      let e = entry_of downs m b there in
+      let f = entry_of ups m a here in
+      let next : (mark_at downs there.0).0 ≡ m = ap (λ (p : ℕ × Cost). p.0) e.1 in
+      let node : (mark_at ups here.0).0 ≡ m = ap (λ (p : ℕ × Cost). p.0) f.1 in
       record {
         i = here.0;
         j = there.0;
-        shared = (here.1, there.1, node ∙ sym next);
+        shared = (f.0, e.0, node ∙ sym next);
         node = node;
-        cost = ap (λ (p : ℕ × Cost). cost_sum p.1 (entry_at downs there.0).1) f ∙ ap (λ (p : ℕ × Cost). cost_sum a p.1) e;
+        cost = ap (λ (p : ℕ × Cost). cost_sum p.1 (mark_at downs there.0).1.cost) f.1 ∙ ap (λ (p : ℕ × Cost). cost_sum a p.1) e.1;
       }
 
   -- a tight node is not stalled
@@ -193,11 +211,11 @@ module _ (H : LevelsAndLegs) (k : IsKeptForSome H) (s t : ℕ) (ups downs : List
   at_least c h m (a, b, rise, fall, sum) =
       let upward = least_reached H.up s m a rise in
       let downward = least_reached H.down t m b fall in
-      let here : Contains ups (m, a) = elim (up.whole m a rise) [
+      let here : Contains (map plain ups) (m, a) = elim (up.whole m a rise) [
         | inl has ↦ has
         | inr stalled ↦ absurd (not_stalled_up m a (tight_up H k s t m a b c h upward downward sum) stalled)
       ] in
-      let there : Contains downs (m, b) = elim (down.whole m b fall) [
+      let there : Contains (map plain downs) (m, b) = elim (down.whole m b fall) [
         | inl has ↦ has
         | inr stalled ↦ absurd (not_stalled_down m b (tight_down H k s t m a b c h upward downward sum) stalled)
       ] in
@@ -218,17 +236,18 @@ module _ (H : LevelsAndLegs) (k : IsKeptForSome H) (s t : ℕ) (ups downs : List
       apart at.i at.j at.shared
 
   -- the least numbered node of least cost that both have is where the route meets
-  pub meets : (meet : Meet) → IsFirstMeet ups downs (length ups) meet → IsMeet H s t meet.node meet.cost
+  pub meets : (meet : Meet) (first : IsFirstMeet ups downs (length ups) meet) → IsMeet H s t (mark_at ups first.here).0 meet.cost
   meets meet first =
-      let x = (entry_at ups first.here).0 in
-      let a = entry_at ups first.here in
-      let b = entry_at downs first.there in
-      let has : Contains ups (x, a.1) =
-      (first.here, first.is.0, get_or_default ups first.here (get_or ups first.here (0, no_cost)) (0, no_cost) first.is.0) in
-      let there : Contains downs (b.0, b.1) =
-      (first.there, first.is.1, get_or_default downs first.there (get_or downs first.there (0, no_cost)) (0, no_cost) first.is.1) in
-      let other : Contains downs (x, b.1) = subst (λ (n : ℕ). Contains downs (n, b.1)) (sym first.is.2) there in
-      let own : IsMeeting H s t x meet.cost = (a.1, b.1, up.sound x a.1 has, down.sound x b.1 other, sym first.cost) in
+      let x = (mark_at ups first.here).0 in
+      let a = (mark_at ups first.here).1.cost in
+      let b = (mark_at downs first.there).1.cost in
+      let has : Contains (map plain ups) (x, a) =
+      contains_map plain ups (mark_at ups first.here) (Contains-get_or ups first.here (0, no_mark) first.is.0) in
+      let there : Contains (map plain downs) ((mark_at downs first.there).0, b) =
+      contains_map plain downs (mark_at downs first.there) (Contains-get_or downs first.there (0, no_mark) first.is.1) in
+      let other : Contains (map plain downs) (x, b) =
+      subst (λ (n : ℕ). Contains (map plain downs) (n, b)) (sym first.is.2) there in
+      let own : IsMeeting H s t x meet.cost = (a, b, up.sound x a has, down.sound x b other, sym first.cost) in
       let c = some_least x meet.cost own in
       let best = at_least c.0 c.1 c.1.meets.0 c.1.meets.1 in
       let most : IsAtMost meet.cost c.0 =
@@ -236,7 +255,7 @@ module _ (H : LevelsAndLegs) (k : IsKeptForSome H) (s t : ℕ) (ups downs : List
       let same : c.0 ≡ meet.cost = IsAtMost_antisymm c.0 meet.cost (c.1.least x meet.cost own) most in
       let least : IsLeastMeeting H s t meet.cost = subst (IsLeastMeeting H s t) same c.1 in
       record {
-        meets = subst (λ (n : ℕ). IsMeeting H s t n meet.cost) (sym first.node) own;
+        meets = own;
         least = λ m d meeting. (
           least.least m d meeting,
           λ equal.

@@ -19,9 +19,10 @@ use Rattle.ch_query.specs.Routes.{IsUnpacked, arc, shortcut}
 use Rattle.ch_query.proofs.routing.Unpacked.{unpacked_one}
 use Rattle.ch_flows.specs.declared.handing.Halves.{Halves}
 use Rattle.ch_flows.specs.declared.plan.Link.{Link}
-use Rattle.ch_flows.specs.Handing.{AreShares, IsCount, IsExcess, IsExcessAlong, most_flow, part_at, shares_of, weighed}
+use Rattle.ch_flows.specs.Gathering.{IsOver}
+use Rattle.ch_flows.specs.Handing.{AreShares, IsCount, IsExcess, most_flow, part_at, shares_of, weighed}
 use Rattle.ch_flows.specs.Links.{IsBetween, IsLink, IsLinkUnpacked, from_of, head_of, link_at, tail_of, to_of}
-use Rattle.ch_flows.specs.Plans.{IsPlan, IsTally, IsTooMuch, IsWay, AreFlows, AreTimes}
+use Rattle.ch_flows.specs.Plans.{IsPlan, IsTally, IsTallyBy, IsTooMuch, IsWay, AreFlows, AreTimes}
 use Rattle.ch_flows.specs.Flows.{arcs_of, flow, times}
 
 -- the arc of a leg
@@ -217,21 +218,33 @@ module _ (H : LevelsAndLegs) where
         let one : sum_by f ((demand, answer) ∷ []) ≡ demand * times u w (arcs_of answer) + 0 = sum_by-cons f (demand, answer) [] in
         omega (arith, sum_by-append f served ((demand, answer) ∷ []), one)
 
-    pub tally_more : (served : List (ℕ × Option Route)) (demand : ℕ) (answer : Option Route) (way old new : List ℕ) →
-        IsTally H links served old → IsWay H links way (arcs_of answer) →
-        ((share : ℕ → ℕ) → weighed share new ≡ weighed share old + demand * shares_of share way) →
-        IsTally H links (served ++ (demand, answer) ∷ []) new
-    tally_more served demand answer way old new tally is added u w share are =
+    pub tally_more_by : (served : List (ℕ × Option Route)) (demand : ℕ) (answer : Option Route) (way : List ℕ)
+        (old new : (ℕ → ℕ) → ℕ) → IsTallyBy H links served old → IsWay H links way (arcs_of answer) →
+        ((share : ℕ → ℕ) → new share ≡ old share + demand * shares_of share way) →
+        IsTallyBy H links (served ++ (demand, answer) ∷ []) new
+    tally_more_by served demand answer way old new tally is added u w share are =
         let arcs = arcs_of answer in
         let e : demand * shares_of share way ≡ demand * times u w arcs = ap (λ (n : ℕ). demand * n) (is.times u w share are) in
         omega (arith, added share, tally u w share are, e, flow_more u w served demand answer)
 
-    pub along_too_much : (served : List (ℕ × Option Route)) (demand : ℕ) (answer : Option Route) (way old : List ℕ) →
-        length old ≡ length parts → IsTally H links served old → IsWay H links way (arcs_of answer) → IsExcessAlong way demand old →
-        IsTooMuch links parts (served ++ (demand, answer) ∷ [])
-    along_too_much served demand answer way old long tally is e =
-        let arcs = arcs_of answer in
-        too_much (served ++ (demand, answer) ∷ []) e.0 e.1 (omega (arith, e.2, long)) e.3 (λ u w share are.
-        let times_e : demand * shares_of share way ≡ demand * times u w arcs =
-        ap (λ (n : ℕ). demand * n) (is.times u w share are) in
-        omega (arith, e.4 share, tally u w share are, times_e, flow_more u w served demand answer))
+    pub tally_more : (served : List (ℕ × Option Route)) (demand : ℕ) (answer : Option Route) (way old new : List ℕ) →
+        IsTally H links served old → IsWay H links way (arcs_of answer) →
+        ((share : ℕ → ℕ) → weighed share new ≡ weighed share old + demand * shares_of share way) →
+        IsTally H links (served ++ (demand, answer) ∷ []) new
+    tally_more served demand answer way old new =
+        tally_more_by served demand answer way (λ share. weighed share old) (λ share. weighed share new)
+
+    -- an arc has too much if a leg has too much of a total
+    pub over_too_much : (served : List (ℕ × Option Route)) (total : (ℕ → ℕ) → ℕ) (legs : ℕ) → legs ≡ length parts →
+        IsTallyBy H links served total → IsOver legs total → IsTooMuch links parts served
+    over_too_much served total legs count tally over =
+        too_much served over.0 over.1 (omega (arith, over.2, count)) over.3 (λ u w share are.
+        omega (arith, over.4 share, tally u w share are))
+
+    pub along_too_much : (served : List (ℕ × Option Route)) (demand : ℕ) (answer : Option Route) (way : List ℕ) (old : (ℕ → ℕ) → ℕ)
+        (legs : ℕ) → legs ≡ length parts → IsTallyBy H links served old → IsWay H links way (arcs_of answer) →
+        IsOver legs (λ share. old share + demand * shares_of share way) → IsTooMuch links parts (served ++ (demand, answer) ∷ [])
+    along_too_much served demand answer way old legs count tally is =
+        let new : (ℕ → ℕ) → ℕ = λ share. old share + demand * shares_of share way in
+        over_too_much (served ++ (demand, answer) ∷ []) new legs count
+        (tally_more_by served demand answer way old new tally is (λ share. refl))

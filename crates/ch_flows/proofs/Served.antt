@@ -9,7 +9,7 @@ use Rattle.ch_hierarchy.specs.Hierarchy.{LevelsAndLegs}
 use Rattle.ch_query.specs.declared.routes.Route.{Route}
 use Rattle.ch_flows.specs.declared.plan.Link.{Link}
 use Rattle.ch_flows.specs.Flows.{AreServed, IsAnswer, arcs_of, missing, without_route}
-use Rattle.ch_flows.specs.Plans.{AreCounted, IsPairAt, IsTally, IsWay}
+use Rattle.ch_flows.specs.Plans.{AreCounted, AreCountedBy, IsPairAt, IsTally, IsTallyBy, IsWay}
 
 pub served_none : (H : LevelsAndLegs) (sources targets demands : List ℕ) → AreServed H sources targets demands 0 []
 served_none H sources targets demands = record {
@@ -73,3 +73,24 @@ counted_pair H links sources targets demands n way found demand pair flows new m
       added (subst (λ (l : List ℕ). IsWay H links l (arcs_of answer)) (sym same) pair.0.3),
       missed_more counted.0 demand answer missed (missed + more) counted.3 (omega (arith, missed_is)),
     )
+
+-- the same of a total
+pub counted_cell : (H : LevelsAndLegs) (links : List Link) (sources targets demands : List ℕ) (n : ℕ) (way : List ℕ) (found : Bool)
+    (demand : ℕ) (pair : IsPairAt H links sources targets demands n way found demand) (old new : (ℕ → ℕ) → ℕ) (missed more : ℕ)
+    (counted : AreCountedBy H links sources targets demands n old missed) →
+    IsTallyBy H links (counted.0 ++ (demand, pair.0.0) ∷ []) new → missing pair.0.0 ≡ more →
+    AreCountedBy H links sources targets demands (n + 1) new (missed + more)
+counted_cell H links sources targets demands n way found demand pair old new missed more counted tally missed_is =
+    let answer = pair.0.0 in (
+      counted.0 ++ (demand, answer) ∷ [],
+      served_more H sources targets demands n counted.0 demand answer counted.1 (sym pair.1) pair.0.2,
+      tally,
+      missed_more counted.0 demand answer missed (missed + more) counted.3 (omega (arith, missed_is)),
+    )
+
+-- a total that is the same counts the same
+pub counted_same : (H : LevelsAndLegs) (links : List Link) (sources targets demands : List ℕ) (n : ℕ) (old new : (ℕ → ℕ) → ℕ)
+    (missed : ℕ) → ((share : ℕ → ℕ) → new share ≡ old share) → AreCountedBy H links sources targets demands n old missed →
+    AreCountedBy H links sources targets demands n new missed
+counted_same H links sources targets demands n old new missed same counted =
+    (counted.0, counted.1, (λ u w share are. same share ∙ counted.2 u w share are), counted.3)

@@ -1,11 +1,12 @@
 -- Trees of least paths: what one more leg changes, and the step to an entry.
-use Rattle.std.proofs.Common.{◌≡◌, ℕ, ◌+◌, ◌*◌, ◌<◌, ◌≤◌, List, [], ◌∷◌, length, get_or, Contains, Option, Some, None}
+use Rattle.std.proofs.Common.{◌≡◌, ℕ, ◌+◌, ◌*◌, ◌<◌, ◌≤◌, List, [], ◌∷◌, length, map, get_or, Contains, Option, Some, None}
 use Rattle.std.proofs.Common.{inl, inr, refl, sym, ◌∙◌, ap, subst, arith}
 use Rattle.std.specs.Prelude.{All, is_some}
 use Rattle.std.proofs.lemmas.Bool.{cases_lt, false≢true}
-use Rattle.std.proofs.lemmas.List.{get_or_default}
+use Rattle.std.proofs.lemmas.List.{get_or-map, get_or_default, length-map}
 use Rattle.ch_graph.specs.declared.cost.Cost.{Cost}
 use Rattle.ch_graph.specs.Cost.{cost_sum, no_cost}
+use Rattle.ch_graph.proofs.Lists.{contains_map}
 use Rattle.ch_hierarchy.specs.declared.leg.Leg.{Leg}
 use Rattle.std.proofs.lemmas.List.Elements.{All-contains, Contains-get_or}
 use Rattle.ch_hierarchy.specs.Hierarchy.{AreLegsUp, IsLegUp, IsLevelled, LevelsAndLegs, nodes_of}
@@ -19,10 +20,13 @@ use Rattle.ch_query.specs.Parents.{IsChosen}
 use Rattle.ch_query.specs.Spread.{IsSpread}
 use Rattle.ch_query.proofs.one_side.Parents.{least_same}
 use Rattle.ch_flows.specs.declared.plan.Link.{Link}
-use Rattle.ch_flows.specs.declared.tree.Step.{Step}
+use Rattle.ch_flows.specs.declared.gathering.Branch.{Branch}
+use Rattle.ch_flows.specs.declared.gathering.Step.{Step}
+use Rattle.ch_flows.specs.declared.tree.Mark.{Mark}
 use Rattle.ch_flows.specs.declared.tree.Tree.{Tree}
 use Rattle.ch_flows.specs.Layouts.{IsLaid, IsSpot, leg_on, place_of}
-use Rattle.ch_flows.specs.Trees.{AreInOrder, IsLegAt, IsSlot, IsSlotWithin, IsStep, IsTaken, IsTree, Reaches, entry_at}
+use Rattle.ch_flows.specs.Trees.{AreInOrder, AreMarksInOrder, IsLegAt, IsSlot, IsSlotWithin, IsStep, IsTaken, IsTree}
+use Rattle.ch_flows.specs.Trees.{Reaches, entry_at, plain}
 use Rattle.ch_flows.proofs.Parts.{leg_in}
 
 module _ (side : Side) (H : LevelsAndLegs) (links : List Link) (entries : List (ℕ × Cost)) (j i : ℕ) where
@@ -141,9 +145,20 @@ leg_spot side H starts links laid v k p spot e =
     subst (IsLegAt side links v (leg_on (row (rows_of H side) v) k)) (sym e) (laid.within side v k spot, laid.each side v k spot)
 
 -- the entries of a tree that are kept are nodes
-pub kept_low : (H : LevelsAndLegs) → IsLevelled H → (side : Side) (links : List Link) (tree : Tree) → tree.source < nodes_of H →
-    IsTree side H links tree → All (λ (e : ℕ × Cost). e.0 < nodes_of H) tree.kept.items
-kept_low H levelled side links tree low is k d inside =
+pub kept_low : (H : LevelsAndLegs) → IsLevelled H → (side : Side) (branches : List Branch) (tree : Tree) → tree.source < nodes_of H →
+    IsTree side H branches tree → All (λ (e : ℕ × Mark). e.0 < nodes_of H) tree.kept.items
+kept_low H levelled side branches tree low is k d inside =
     let e = get_or tree.kept.items k d in
-    let path = (is.kept.sound e.0 e.1 (Contains-get_or tree.kept.items k d inside)).path in
+    let has = contains_map plain tree.kept.items e (Contains-get_or tree.kept.items k d inside) in
+    let path = (is.kept.sound e.0 e.1.cost has).path in
     path_end H (rows_of H side) (legs_up H levelled side) tree.source e.0 path.0 low path.1
+
+-- they are in order
+pub marks_ordered : (kept : List (ℕ × Mark)) → AreInOrder (map plain kept) → AreMarksInOrder kept
+marks_ordered kept order i j d less inside =
+    let size = length-map kept plain in
+    let rise : (get_or (map plain kept) i (plain d)).0 < (get_or (map plain kept) j (plain d)).0 =
+    order i j (plain d) less (omega (arith, inside, size)) in
+    let first = ap (λ (e : ℕ × Cost). e.0) (get_or-map plain kept i d (plain d) (omega (arith, less, inside))) in
+    let second = ap (λ (e : ℕ × Cost). e.0) (get_or-map plain kept j d (plain d) inside) in
+    omega (arith, rise, first, second)

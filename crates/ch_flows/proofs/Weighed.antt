@@ -39,7 +39,7 @@ weighed-handed share xs i a b f low is split =
     omega (arith, weighed-none share xs i low, mul-add f (share a) (share b), e, g)
 
 -- if no flow counts, the sum is 0
-weighed-zero : (share : ℕ → ℕ) (xs : List ℕ) → ((i : ℕ) → i < length xs → get_or xs i 0 * share i ≡ 0) → weighed share xs ≡ 0
+pub weighed-zero : (share : ℕ → ℕ) (xs : List ℕ) → ((i : ℕ) → i < length xs → get_or xs i 0 * share i ≡ 0) → weighed share xs ≡ 0
 weighed-zero share [] none = refl
 weighed-zero share (x ∷ xs) none =
     omega (arith, none zero (omega arith), weighed-zero (λ k. share (suc k)) xs (λ i low. none (suc i) (omega (arith, low))))

@@ -38,6 +38,10 @@ pub record IsWay (H : LevelsAndLegs) (links : List Link) (way : List ℕ) (arcs 
 abbrev pub IsTally : LevelsAndLegs → List Link → List (ℕ × Option Route) → List ℕ → Type 0
 IsTally H links served flows = (u w : ℕ) (share : ℕ → ℕ) → AreTimes H links u w share → weighed share flows ≡ flow u w served
 
+-- the same of a total, for each numbering of the legs, of what was added to legs or is held
+abbrev pub IsTallyBy : LevelsAndLegs → List Link → List (ℕ × Option Route) → ((ℕ → ℕ) → ℕ) → Type 0
+IsTallyBy H links served total = (u w : ℕ) (share : ℕ → ℕ) → AreTimes H links u w share → total share ≡ flow u w served
+
 -- each leg that is an arc has the flow of that arc
 abbrev pub AreFlows : List Link → List (Option Halves) → List (ℕ × Option Route) → List ℕ → Type 0
 AreFlows links parts served flows = (j : ℕ) → j < length parts → part_at parts j ≡ None →
@@ -68,6 +72,11 @@ pub record IsPlanOf (H : LevelsAndLegs) (plan : Plan) : Type 0 where
 abbrev pub AreCounted : LevelsAndLegs → List Link → List ℕ → List ℕ → List ℕ → ℕ → List ℕ → ℕ → Type 0
 AreCounted H links sources targets demands n flows missed = (served : List (ℕ × Option Route))
     × AreServed H sources targets demands n served × IsTally H links served flows × (missed ≡ without_route served)
+
+-- the same of a total
+abbrev pub AreCountedBy : LevelsAndLegs → List Link → List ℕ → List ℕ → List ℕ → ℕ → ((ℕ → ℕ) → ℕ) → ℕ → Type 0
+AreCountedBy H links sources targets demands n total missed = (served : List (ℕ × Option Route))
+    × AreServed H sources targets demands n served × IsTallyBy H links served total × (missed ≡ without_route served)
 
 -- pair n has this way and this demand
 abbrev pub IsPairAt : LevelsAndLegs → List Link → List ℕ → List ℕ → List ℕ → ℕ → List ℕ → Bool → ℕ → Type 0

@@ -1,7 +1,7 @@
 -- Trees of least paths from a node to higher ones: before each node the one that a route comes from, and the place of the leg
--- between both.
-use Rattle.std.specs.Prelude.{◌≡◌, ◌≢◌, ℕ, ◌<◌, ◌≤◌, ◌++◌, ◌⊎◌, List, [], ◌∷◌, length, slice_index, slice_index_or, AllPairs, Contains}
-use Rattle.std.specs.Prelude.{Option, None, Some}
+-- between both. The ways back from nodes where routes may meet are branches.
+use Rattle.std.specs.Prelude.{◌≡◌, ◌≢◌, ℕ, ◌<◌, ◌≤◌, ◌++◌, ◌⊎◌, List, [], ◌∷◌, length, map, slice_index, slice_index_or, AllPairs, Contains}
+use Rattle.std.specs.Prelude.{Option, None, Some, MatchOption}
 use Rattle.ch_graph.specs.declared.cost.Cost.{Cost}
 use Rattle.ch_graph.specs.Cost.{cost_sum, no_cost}
 use Rattle.ch_hierarchy.specs.declared.leg.Leg.{Leg}
@@ -11,11 +11,16 @@ use Rattle.ch_hierarchy.specs.declared.side.Side.{Side}
 use Rattle.ch_hierarchy.specs.Side.{other, rows_of}
 use Rattle.ch_hierarchy.specs.Paths.{IsLeastUpwardPath}
 use Rattle.ch_query.specs.Search.{IsStalled}
+use Rattle.ch_query.specs.Parents.{IsChosen}
 use Rattle.ch_query.specs.Routes.{DescentStep, IsDescent}
 use Rattle.ch_query.specs.Spread.{IsSpread}
 use Rattle.ch_flows.specs.declared.plan.Link.{Link}
-use Rattle.ch_flows.specs.declared.tree.Step.{Step}
+use Rattle.ch_flows.specs.declared.tree.Reach.{Reach}
+use Rattle.ch_flows.specs.declared.gathering.Branch.{Branch}
+use Rattle.ch_flows.specs.declared.gathering.Step.{Step}
+use Rattle.ch_flows.specs.declared.tree.Mark.{Mark}
 use Rattle.ch_flows.specs.declared.tree.Tree.{Tree}
+use Rattle.ch_flows.specs.Gathering.{branch_at}
 use Rattle.ch_flows.specs.Layouts.{leg_on, link_of}
 use Rattle.ch_flows.specs.Links.{link_at}
 
@@ -82,12 +87,11 @@ pub record IsOpenSpread (rows back : List (List Leg)) (s : ℕ) (list : List (�
   pub sound : (v : ℕ) (c : Cost) → Contains list (v, c) → IsLeastUpwardPath rows s v c
   pub whole : (v : ℕ) (c : Cost) → IsLeastUpwardPath rows s v c → Contains list (v, c) ⊎ IsStalled rows back s v c
 
--- the tree of least paths from its source on a side
-pub record IsTree (side : Side) (H : LevelsAndLegs) (links : List Link) (tree : Tree) : Type 0 where
-  pub spread : IsSpread (rows_of H side) None tree.source tree.entries.items
-  pub long : length tree.steps.items ≡ length tree.entries.items
-  pub steps : AreSlots side H links tree.entries.items (length tree.entries.items) tree.steps.items
-  pub kept : IsOpenSpread (rows_of H side) (rows_of H (other side)) tree.source tree.kept.items
+-- all that a source reaches on a side, and the last step of a least path to each entry
+pub record IsReach (side : Side) (H : LevelsAndLegs) (links : List Link) (reach : Reach) : Type 0 where
+  pub spread : IsSpread (rows_of H side) None reach.source reach.entries.items
+  pub long : length reach.steps.items ≡ length reach.entries.items
+  pub steps : AreSlots side H links reach.entries.items (length reach.entries.items) reach.steps.items
 
 -- the places of the legs of a descent
 abbrev pub AreLegsAt : Side → List Link → List DescentStep → List ℕ → Type 0
@@ -111,3 +115,56 @@ pub record AreKept (rows back : List (List Leg)) (entries kept : List (ℕ × Co
   pub sound : (k : ℕ) → k < length kept → (j : ℕ) × (j < n) × (entry_at kept k ≡ entry_at entries j)
   pub whole : (j : ℕ) → j < n → Contains kept (entry_at entries j)
       ⊎ ((s : ℕ) → IsSpread rows None s entries → IsStalled rows back s (entry_at entries j).0 (entry_at entries j).1)
+
+-- a route goes from one branch to another one of the same source, over the leg at a place
+pub record IsStepTo (side : Side) (H : LevelsAndLegs) (links : List Link) (from to : Branch) (p : ℕ) : Type 0 where
+  pub source : from.source ≡ to.source
+  pub differs : to.node ≢ to.source
+  pub leg : Leg
+  pub chosen : IsChosen (rows_of H side) to.source to.node from.node leg
+  pub place : IsLegAt side links from.node leg p
+
+-- a branch is the way to its source, or goes on from one of the first n branches
+abbrev pub GoesOn : Side → LevelsAndLegs → List Link → List Branch → ℕ → Branch → Type 0
+GoesOn side H links branches n branch = MatchOption branch.step (branch.node ≡ branch.source)
+    (λ step. (step.before < n) × IsStepTo side H links (branch_at branches step.before) branch step.leg_place)
+
+-- each branch goes on from an earlier one
+abbrev pub AreBranches : Side → LevelsAndLegs → List Link → List Branch → Type 0
+AreBranches side H links branches = (k : ℕ) → k < length branches → GoesOn side H links branches k (branch_at branches k)
+
+-- branch k is the way from v back to s
+abbrev pub IsBranchAt : List Branch → ℕ → ℕ → ℕ → Type 0
+IsBranchAt branches s v k =
+    (k < length branches) × ((branch_at branches k).source ≡ s) × ((branch_at branches k).node ≡ v)
+
+-- further branches may come after the old ones
+pub record AreMoreBranches (old new : List Branch) : Type 0 where
+  pub long : length old ≤ length new
+  pub same : (k : ℕ) → k < length old → branch_at new k ≡ branch_at old k
+
+-- an entry that is kept, without its branch
+abbrev pub plain : ℕ × Mark → ℕ × Cost
+plain entry = (entry.0, entry.1.cost)
+
+-- nothing is known of an entry
+abbrev pub no_mark : Mark
+no_mark = record { cost = no_cost; spot = None }
+
+-- entry i of those that are kept
+abbrev pub mark_at : List (ℕ × Mark) → ℕ → ℕ × Mark
+mark_at kept i = slice_index_or kept i (0, no_mark)
+
+-- these entries are in order of node
+abbrev pub AreMarksInOrder : List (ℕ × Mark) → Type 0
+AreMarksInOrder kept = AllPairs (λ a b. a.0 < b.0) kept
+
+-- where the branch of an entry is known, it is the way from its node back to s
+abbrev pub AreSpots : List Branch → ℕ → List (ℕ × Mark) → Type 0
+AreSpots branches s kept = (k spot : ℕ) → k < length kept → (mark_at kept k).1.spot ≡ Some spot →
+    IsBranchAt branches s (mark_at kept k).0 spot
+
+-- where routes from or to the source may meet others, with the branches there
+pub record IsTree (side : Side) (H : LevelsAndLegs) (branches : List Branch) (tree : Tree) : Type 0 where
+  pub kept : IsOpenSpread (rows_of H side) (rows_of H (other side)) tree.source (map plain tree.kept.items)
+  pub spots : AreSpots branches tree.source tree.kept.items

@@ -70,11 +70,15 @@ pub fn add_along(way: &[usize], demand: u64, flows: &mut [u64]) -> Result<(), To
 }
 
 /// Adds a demand to the flow of a leg.
-fn add(flows: &mut [u64], place: usize, demand: u64) -> Result<(), TooLarge>
+///
+/// # Errors
+/// `TooLarge` if it would be more than [`MOST_FLOW`]. The flows are then as before.
+pub(crate) fn add(flows: &mut [u64], place: usize, demand: u64) -> Result<(), TooLarge>
     requires { place < length flows.old }
     ensures added { OnOk result (flows.new ≡ slice_set flows.old place (slice_index flows.old place + demand)) }
     ensures long { length flows.new ≡ length flows.old }
-    ensures same { OnErr result (IsPassed flows.old place demand) }
+    ensures passed { OnErr result (IsPassed flows.old place demand) }
+    ensures same { OnErr result (flows.new ≡ flows.old) }
 {
     match flows[place].checked_add(demand) {
         Some(flow) if flow <= MOST_FLOW => {

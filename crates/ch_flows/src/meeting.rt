@@ -1,26 +1,30 @@
 //! Where the tree of a source and the trees of targets meet, and the way of the route over this node.
 ghost use Rattle.std.specs.Prelude.{◌≡◌, ◌↔◌, ◌+◌, ◌++◌, ◌<◌, [], ℕ, List, Option, ⊤, length, map, slice_index_or, All, IsTrue, IfOk, OnOk, MatchOption};
-ghost use Rattle.ch_graph.specs.declared.cost.Cost.{Cost as AnyCost};
 ghost use Rattle.ch_graph.specs.Cost.{IsBelow, cost_sum};
 ghost use Rattle.ch_graph.specs.Rows.{pairs_at};
 ghost use Rattle.ch_hierarchy.specs.Hierarchy.{LevelsAndLegs};
 ghost use Rattle.ch_hierarchy.specs.declared.side.Side.TheVariants.{Up as UpSide, Down as DownSide};
+ghost use Rattle.ch_flows.specs.declared.gathering.Branch.{Branch as AnyBranch};
 ghost use Rattle.ch_flows.specs.declared.handing.Halves.{Halves as AnyHalves};
 ghost use Rattle.ch_flows.specs.declared.plan.Link.{Link as AnyLink};
+ghost use Rattle.ch_flows.specs.declared.tree.Mark.{Mark as AnyMark};
+ghost use Rattle.ch_flows.specs.declared.tree.Tree.{Tree as AnyTree};
 ghost use Rattle.ch_query.specs.Distance.{IsKeptForSome};
+ghost use Rattle.ch_flows.specs.Found.{IsFound, is_way};
 ghost use Rattle.ch_flows.specs.Meetings.{AreMeetings, AreStops, AreStopsAt, IsMeetingSoFar, IsNearer, kept_of};
-ghost use Rattle.ch_flows.specs.Plans.{IsPlan, IsWayFound};
-ghost use Rattle.ch_flows.specs.Trees.{AreInOrder, IsTree, entry_at};
+ghost use Rattle.ch_flows.specs.Plans.{IsPlan};
+ghost use Rattle.ch_flows.specs.Trees.{AreBranches, AreMarksInOrder, IsTree, mark_at};
 
-use crate::tree::Tree;
+use crate::tree::{Mark, Tree};
 use ch_graph::{Cost, Rows};
 use std::alloc::{AllocError, Global};
 
-/// A node where two trees meet, and the sum of their costs there.
+/// The sum of the costs of two trees at a node where they meet, and their branches there, if these are known.
 #[derive(Clone, Copy)]
 pub(crate) struct Meet {
-    node: u32,
     cost: Cost,
+    up: Option<u32>,
+    down: Option<u32>,
 }
 
 /// What is known of where two trees meet.
@@ -34,33 +38,42 @@ pub(crate) enum Meeting {
     Unknown,
 }
 
-/// Appends the places of the legs of the way between the sources of two trees, one up and one down, to none, and says whether
-/// there is a way. It is `None` if that is not known.
-///
-/// # Errors
-/// `AllocError` if there is no memory.
-pub(crate) fn way_between(
-    ups: &Tree,
-    downs: &Tree,
-    meeting: Meeting,
-    places: &mut Vec<usize>,
-) -> Result<Option<bool>, AllocError>
-    ensures { IfOk result (λ known. MatchOption known ⊤ (λ found. (H : LevelsAndLegs) (links : List AnyLink) (parts : List (Option AnyHalves)) → IsKeptForSome H → IsPlan H links parts → IsTree UpSide H links ups.now → IsTree DownSide H links downs.now → IsMeetingSoFar ups.now.kept.items downs.now.kept.items (length ups.now.kept.items) meeting → places.old.items ≡ [] → IsWayFound H links ups.now.source downs.now.source places.new.items found)) }
-{
-    let meet = match meeting {
-        Meeting::Unknown => return Ok(None),
-        Meeting::Nowhere => return Ok(Some(false)),
-        Meeting::At(meet) => meet,
-    };
-    let has_rise = ups.push_way_of(meet.node, places)?;
-    let has_fall = downs.push_way_of(meet.node, places)?;
-    if has_rise && has_fall {
-        return Ok(Some(true));
-    }
-    Ok(None)
+/// The way of a pair.
+#[derive(Clone, Copy)]
+pub(crate) enum Found {
+    /// It goes up along the first branch and down along the second one.
+    Between(u32, u32),
+    /// Its legs are listed, if there is one.
+    Listed(bool),
 }
 
-/// Returns for each node the trees that keep an entry there, by their places, each with the cost.
+impl Found {
+    /// Whether there is a way.
+    pub(crate) fn is_way(self) -> bool
+        ensures { result ≡ is_way self }
+    {
+        match self {
+            Found::Between(_, _) => true,
+            Found::Listed(is_found) => is_found,
+        }
+    }
+}
+
+/// Returns the way between the sources of two trees, one up and one down, which meet there. It is `None` if it is not known.
+pub(crate) fn way_between(meeting: Meeting) -> Option<Found>
+    ensures { MatchOption result ⊤ (λ found. (H : LevelsAndLegs) (links : List AnyLink) (parts : List (Option AnyHalves)) (rows columns : List AnyBranch) (ups downs : AnyTree) → IsKeptForSome H → IsPlan H links parts → AreBranches UpSide H links rows → AreBranches DownSide H links columns → IsTree UpSide H rows ups → IsTree DownSide H columns downs → IsMeetingSoFar ups.kept.items downs.kept.items (length ups.kept.items) meeting → IsFound H links rows columns ups.source downs.source [] found) }
+{
+    let meet = match meeting {
+        Meeting::Unknown => return None,
+        Meeting::Nowhere => return Some(Found::Listed(false)),
+        Meeting::At(meet) => meet,
+    };
+    let up = meet.up?;
+    let down = meet.down?;
+    Some(Found::Between(up, down))
+}
+
+/// Returns for each node the trees that keep an entry there, by their places, each with what is known of it.
 ///
 /// # Errors
 /// `AllocError` if there is no memory.
@@ -68,7 +81,7 @@ pub(crate) fn stops_of(
     alloc: Global,
     nodes: u32,
     trees: &[Tree],
-) -> Result<Rows<(usize, Cost)>, AllocError>
+) -> Result<Rows<(usize, Mark)>, AllocError>
     requires { All (λ list. All (λ entry. entry.0 < nodes) list) (map kept_of trees.now) }
     ensures count { IfOk result (λ stops. length stops ≡ nodes) }
     ensures stops { IfOk result (λ stops. AreStops stops (map kept_of trees.now)) }
@@ -83,13 +96,13 @@ pub(crate) fn stops_of(
 /// Appends the entries of a tree at this place, each after its node.
 fn push_stops(
     place: usize,
-    kept: &[(u32, Cost)],
-    pairs: &mut Vec<(u32, (usize, Cost))>,
+    kept: &[(u32, Mark)],
+    pairs: &mut Vec<(u32, (usize, Mark))>,
 ) -> Result<(), AllocError>
     ensures { OnOk result (pairs.new.items ≡ pairs.old.items ++ pairs_at place kept.now) }
 {
-    for (node, cost) in kept {
-        pairs.push((*node, (place, *cost)))?;
+    for (node, mark) in kept {
+        pairs.push((*node, (place, *mark)))?;
     }
     Ok(())
 }
@@ -100,49 +113,54 @@ fn push_stops(
 /// `AllocError` if there is no memory.
 pub(crate) fn meetings(
     alloc: Global,
-    kept: &[(u32, Cost)],
-    stops: &Rows<(usize, Cost)>,
+    kept: &[(u32, Mark)],
+    stops: &Rows<(usize, Mark)>,
     trees: usize,
 ) -> Result<Vec<Meeting>, AllocError>
-    requires nodes { (k : ℕ) → k < length kept.now → (entry_at kept.now k).0 < length stops.now }
+    requires nodes { (k : ℕ) → k < length kept.now → (mark_at kept.now k).0 < length stops.now }
     requires trees { (v : ℕ) → All (λ stop. stop.0 < trees) (slice_index_or stops.now v []) }
     ensures long { IfOk result (λ meetings. length meetings.items ≡ trees) }
-    ensures meetings { IfOk result (λ meetings. (lists : List (List (ℕ × AnyCost))) → length lists ≡ trees → AreInOrder kept.now → All AreInOrder lists → AreStops stops.now lists → AreMeetings kept.now lists (length kept.now) meetings.items) }
+    ensures meetings { IfOk result (λ meetings. (lists : List (List (ℕ × AnyMark))) → length lists ≡ trees → AreMarksInOrder kept.now → All AreMarksInOrder lists → AreStops stops.now lists → AreMeetings kept.now lists (length kept.now) meetings.items) }
 {
     let mut meetings = vec![in alloc; Meeting::Nowhere; trees]?;
     for k in 0..kept.len() {
-        let (node, cost) = kept[k];
-        meet_at(node, cost, stops.row(node), meetings.as_mut_slice());
+        let (node, mark) = kept[k];
+        meet_at(mark, stops.row(node), meetings.as_mut_slice());
     }
     Ok(meetings)
 }
 
-/// Goes on with the trees that have entries at a node, where another tree has one at this cost.
-fn meet_at(node: u32, cost: Cost, stops: &[(usize, Cost)], meetings: &mut [Meeting])
+/// Goes on with the trees that have entries at a node, where another tree has one with this mark.
+fn meet_at(mark: Mark, stops: &[(usize, Mark)], meetings: &mut [Meeting])
     requires { All (λ stop. stop.0 < length meetings.old) stops.now }
     ensures long { length meetings.new ≡ length meetings.old }
-    ensures met { (ups : List (ℕ × AnyCost)) (lists : List (List (ℕ × AnyCost))) (n : ℕ) → n < length ups → entry_at ups n ≡ (node, cost) → length lists ≡ length meetings.old → AreInOrder ups → All AreInOrder lists → AreStopsAt lists node stops.now → AreMeetings ups lists n meetings.old → AreMeetings ups lists (n + 1) meetings.new }
+    ensures met { (ups : List (ℕ × AnyMark)) (lists : List (List (ℕ × AnyMark))) (n node : ℕ) → n < length ups → mark_at ups n ≡ (node, mark) → length lists ≡ length meetings.old → AreMarksInOrder ups → All AreMarksInOrder lists → AreStopsAt lists node stops.now → AreMeetings ups lists n meetings.old → AreMeetings ups lists (n + 1) meetings.new }
 {
     for j in 0..stops.len() {
         let (tree, other) = stops[j];
         let old = meetings[tree];
-        meetings[tree] = nearer(old, node, cost, other);
+        meetings[tree] = nearer(old, mark, other);
     }
 }
 
-/// Returns where two trees meet after one more node that both have, at these costs.
-fn nearer(old: Meeting, node: u32, up: Cost, down: Cost) -> Meeting
-    ensures { IsNearer old (record { node = node; cost = cost_sum up down }) result }
+/// Returns where two trees meet after one more node that both have.
+fn nearer(old: Meeting, up: Mark, down: Mark) -> Meeting
+    ensures { IsNearer old (record { cost = cost_sum up.cost down.cost; up = up.spot; down = down.spot }) result }
 {
-    let Some(cost) = sum_of(up, down) else {
+    let Some(cost) = sum_of(up.cost, down.cost) else {
         return Meeting::Unknown;
     };
+    let new = Meeting::At(Meet {
+        cost,
+        up: up.spot,
+        down: down.spot,
+    });
     match old {
-        Meeting::Nowhere => Meeting::At(Meet { node, cost }),
-        Meeting::Unknown => Meeting::Unknown,
+        Meeting::Nowhere => new,
+        Meeting::Unknown => old,
         Meeting::At(meet) => {
             if is_below(cost, meet.cost) {
-                return Meeting::At(Meet { node, cost });
+                return new;
             }
             old
         }

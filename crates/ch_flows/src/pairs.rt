@@ -1,5 +1,5 @@
 //! Flows of pairs of nodes.
-ghost use Rattle.std.specs.Prelude.{◌≡◌, [], ◌<◌, ◌≤◌, ◌+◌, ◌*◌, ℕ, List, length, All, Option, IfErr, IfOk, OnOk};
+ghost use Rattle.std.specs.Prelude.{◌≡◌, [], ◌<◌, ◌≤◌, ◌+◌, ◌*◌, ℕ, List, length, All, IfErr, IfOk, OnOk};
 ghost use Rattle.ch_graph.specs.declared.arc.InArc.{InArc as AnyArc};
 ghost use Rattle.ch_hierarchy.specs.Hierarchy.{LevelsAndLegs, nodes_of};
 ghost use Rattle.ch_hierarchy.specs.declared.side.Side.TheVariants.{Down as DownSide, Up as UpSide};
@@ -9,10 +9,12 @@ ghost use Rattle.ch_flows.specs.Handing.{AreParts};
 ghost use Rattle.ch_flows.specs.Layouts.{IsLaid};
 ghost use Rattle.ch_flows.specs.Meetings.{IsMeetingSoFar};
 ghost use Rattle.ch_flows.specs.Plans.{AreCounted, AreFlowsOf, IsPairAt, IsPlanOf, IsRefusal, IsTally, IsWay, IsWayFound};
-ghost use Rattle.ch_flows.specs.Trees.{IsTree};
+ghost use Rattle.ch_flows.specs.Found.{IsFound};
+ghost use Rattle.ch_flows.specs.Trees.{AreBranches, IsTree};
+ghost use Rattle.ch_flows.specs.declared.gathering.Branch.{Branch as AnyBranch};
 ghost use Rattle.ch_flows.specs.declared.plan.Plan.{Plan as AnyPlan};
 
-use crate::meeting::{Meeting, way_between};
+use crate::meeting::{Found, Meeting, way_between};
 use crate::plan::{Layout, Plan};
 use crate::tally::{add_pair, no_flows, take_down};
 use crate::tree::Tree;
@@ -175,8 +177,8 @@ impl Way {
         Ok(is_found)
     }
 
-    /// Finds the places of the legs of the way between the sources of two trees, which meet there, and says whether there is
-    /// one. Where that is not known, it is searched.
+    /// Finds the way between the sources of two trees, which meet there. Where it is not known, it is searched, and its legs
+    /// are listed.
     pub(crate) fn find_in(
         &mut self,
         alloc: Global,
@@ -186,30 +188,31 @@ impl Way {
         ups: &Tree,
         downs: &Tree,
         meeting: Meeting,
-    ) -> Result<bool, AllocError>
+    ) -> Result<Found, AllocError>
         requires kept { IsKeptForSome hierarchy.now }
         requires plan { IsPlanOf hierarchy.now plan.now }
         requires scratch { scratch.old ≡ nodes_of hierarchy.now }
-        requires ups { IsTree UpSide hierarchy.now plan.now.layout.links.items ups.now }
-        requires downs { IsTree DownSide hierarchy.now plan.now.layout.links.items downs.now }
         requires source { ups.now.source < nodes_of hierarchy.now }
         requires target { downs.now.source < nodes_of hierarchy.now }
-        requires meeting { IsMeetingSoFar ups.now.kept.items downs.now.kept.items (length ups.now.kept.items) meeting }
-        ensures way { IfOk result (IsWayFound hierarchy.now plan.now.layout.links.items ups.now.source downs.now.source self.new.places.items) }
+        ensures found { IfOk result (λ found. (row columns : List AnyBranch) → AreBranches UpSide hierarchy.now plan.now.layout.links.items row → AreBranches DownSide hierarchy.now plan.now.layout.links.items columns → IsTree UpSide hierarchy.now row ups.now → IsTree DownSide hierarchy.now columns downs.now → IsMeetingSoFar ups.now.kept.items downs.now.kept.items (length ups.now.kept.items) meeting → IsFound hierarchy.now plan.now.layout.links.items row columns ups.now.source downs.now.source self.new.places.items found) }
+        ensures places { OnOk result (All (λ place. place < length plan.now.parts.items) self.new.places.items) }
         ensures scratch { scratch.new ≡ scratch.old }
     {
         let places = &mut self.places;
         places.clear();
-        match way_between(ups, downs, meeting, places)? {
-            Some(is_found) => Ok(is_found),
-            None => self.find(
-                alloc,
-                hierarchy,
-                &plan.layout,
-                scratch,
-                ups.source,
-                downs.source,
-            ),
+        match way_between(meeting) {
+            Some(found) => Ok(found),
+            None => {
+                let is_found = self.find(
+                    alloc,
+                    hierarchy,
+                    &plan.layout,
+                    scratch,
+                    ups.source,
+                    downs.source,
+                )?;
+                Ok(Found::Listed(is_found))
+            }
         }
     }
 

@@ -1,15 +1,14 @@
 //! Trees of least paths from a node to higher ones, with the places of the legs that they take.
-ghost use Rattle.std.specs.Prelude.{◌≡◌, ◌≢◌, ◌↔◌, ◌+◌, ◌*◌, ◌<◌, ⊤, ℕ, List, None, length, IsTrue, IfOk, MatchOption};
+ghost use Rattle.std.specs.Prelude.{◌≡◌, ◌≢◌, ◌↔◌, ◌+◌, ◌*◌, ◌<◌, ℕ, None, length, IsTrue, IfOk, OnOk, MatchOption};
 ghost use Rattle.ch_graph.specs.Cost.{IsBelow, cost_sum};
 ghost use Rattle.ch_hierarchy.specs.Side.{other, rows_of};
 ghost use Rattle.ch_query.specs.Search.{IsStalled};
 ghost use Rattle.ch_query.specs.Spread.{IsSpread};
-ghost use Rattle.ch_hierarchy.specs.Hierarchy.{LevelsAndLegs, nodes_of};
-ghost use Rattle.ch_hierarchy.specs.declared.side.Side.{Side as AnySide};
-ghost use Rattle.ch_flows.specs.declared.plan.Link.{Link as AnyLink};
+ghost use Rattle.ch_hierarchy.specs.Hierarchy.{nodes_of};
 ghost use Rattle.ch_flows.specs.Layouts.{IsLaid};
-ghost use Rattle.ch_flows.specs.Trees.{AreInOrder, AreKept, ArePlaced, AreSlots, IsTaken, IsTree, IsWayBack, entry_at, step_at};
+ghost use Rattle.ch_flows.specs.Trees.{AreBranches, AreInOrder, AreKept, AreMoreBranches, ArePlaced, AreSlots, IsReach, IsTaken, IsTree, entry_at, step_at};
 
+use crate::gathering::{Branch, Step};
 use crate::meeting::{is_below, sum_of};
 use crate::plan::Layout;
 use ch_graph::Cost;
@@ -17,37 +16,41 @@ use ch_hierarchy::{Hierarchy, Leg, Side};
 use ch_query::{Scratch, Start, spread};
 use std::alloc::{AllocError, Global};
 
-/// The last step of a path to an entry.
-#[derive(Clone, Copy)]
-pub(crate) struct Step {
-    /// The place of the entry that it comes from.
-    before: usize,
-    /// The place of the leg between both in the layout.
-    leg_place: usize,
-}
-
 /// The nodes that a source reaches by legs to higher nodes on one side, and the last step of a least path to each.
 #[derive(Drop)]
-pub(crate) struct Tree {
+pub(crate) struct Reach {
     pub(crate) source: u32,
     /// The nodes in order, with the costs of least paths.
     pub(crate) entries: Vec<(u32, Cost)>,
     /// For each entry but the source, the step from the least numbered node before it on a least path.
-    steps: Vec<Option<Step>>,
-    /// The entries but those to which a leg back shows a way that costs less. A route meets at none of these.
-    pub(crate) kept: Vec<(u32, Cost)>,
-    /// The place of the source's entry.
-    home: usize,
-    /// Where the entry of a node that is kept may be, by the node's number modulo the length. It mostly is there, which
-    /// saves a binary search.
-    hints: Vec<usize>,
+    pub(crate) steps: Vec<Option<Step>>,
 }
 
-/// Hints for each entry that is kept. With more of them, fewer entries share one.
-const HINTS: usize = 4;
+/// What is known of an entry: the cost of a least path, and which branch is the way back, if that is known.
+#[derive(Clone, Copy)]
+pub(crate) struct Mark {
+    pub(crate) cost: Cost,
+    pub(crate) spot: Option<u32>,
+}
+
+/// Where routes from or to a source may meet others.
+#[derive(Drop)]
+pub(crate) struct Tree {
+    pub(crate) source: u32,
+    /// The nodes in order that the source reaches, but those to which a leg back shows a way that costs less.
+    pub(crate) kept: Vec<(u32, Mark)>,
+}
+
+/// Where a tree begins, and whether it goes along the legs up or down.
+#[derive(Clone, Copy)]
+pub(crate) struct Root {
+    pub(crate) side: Side,
+    pub(crate) source: u32,
+}
 
 impl Tree {
-    /// Finds the tree of a source. It takes steps for each node that the source reaches, and for each leg of these.
+    /// Finds the tree of a source, and appends its branches. It takes steps for each node that the source reaches, and for
+    /// each leg of these.
     ///
     /// # Errors
     /// `AllocError` if there is no memory.
@@ -57,18 +60,51 @@ impl Tree {
         layout: &Layout,
         scratch: &mut Scratch,
         places: &mut [usize],
-        side: Side,
-        source: u32,
+        root: Root,
+        branches: &mut Vec<Branch>,
     ) -> Result<Tree, AllocError>
         requires laid { IsLaid hierarchy.now layout.now.starts.items layout.now.links.items (2 * nodes_of hierarchy.now) }
         requires scratch { scratch.old ≡ nodes_of hierarchy.now }
         requires places { length places.old ≡ nodes_of hierarchy.now }
-        requires source { source < nodes_of hierarchy.now }
-        ensures tree { IfOk result (λ tree. IsTree side hierarchy.now layout.now.links.items tree) }
-        ensures source { IfOk result (λ tree. tree.source ≡ source) }
+        requires source { root.source < nodes_of hierarchy.now }
+        ensures tree { IfOk result (λ tree. IsTree root.side hierarchy.now branches.new.items tree) }
+        ensures source { IfOk result (λ tree. tree.source ≡ root.source) }
+        ensures branches { OnOk result (AreBranches root.side hierarchy.now layout.now.links.items branches.old.items → AreBranches root.side hierarchy.now layout.now.links.items branches.new.items) }
+        ensures more { OnOk result (AreMoreBranches branches.old.items branches.new.items) }
         ensures scratch { scratch.new ≡ scratch.old }
         ensures places { length places.new ≡ length places.old }
     {
+        let reach = Reach::find(alloc, hierarchy, layout, scratch, places, root)?;
+        let kept = kept_of(alloc, hierarchy, root.side, &reach.entries, places)?;
+        let kept = reach.marks(alloc, &kept, places, branches)?;
+        Ok(Tree {
+            source: root.source,
+            kept,
+        })
+    }
+}
+
+impl Reach {
+    /// Finds what a source reaches, and writes the place of each entry at its node.
+    fn find(
+        alloc: Global,
+        hierarchy: &Hierarchy,
+        layout: &Layout,
+        scratch: &mut Scratch,
+        places: &mut [usize],
+        root: Root,
+    ) -> Result<Reach, AllocError>
+        requires laid { IsLaid hierarchy.now layout.now.starts.items layout.now.links.items (2 * nodes_of hierarchy.now) }
+        requires scratch { scratch.old ≡ nodes_of hierarchy.now }
+        requires places { length places.old ≡ nodes_of hierarchy.now }
+        requires source { root.source < nodes_of hierarchy.now }
+        ensures reach { IfOk result (λ reach. IsReach root.side hierarchy.now layout.now.links.items reach) }
+        ensures source { IfOk result (λ reach. reach.source ≡ root.source) }
+        ensures nodes { IfOk result (λ reach. (k : ℕ) → k < length reach.entries.items → (entry_at reach.entries.items k).0 < nodes_of hierarchy.now) }
+        ensures scratch { scratch.new ≡ scratch.old }
+        ensures places { length places.new ≡ length places.old }
+    {
+        let (side, source) = (root.side, root.source);
         let start = Start {
             source,
             side,
@@ -85,70 +121,11 @@ impl Tree {
             places,
             steps.as_mut_slice(),
         );
-        let kept = kept_of(alloc, hierarchy, side, &entries, places)?;
-        let home = place_of(&entries, places, source).unwrap_or(0);
-        let hints = hints_of(alloc, &entries, &kept)?;
-        Ok(Tree {
+        Ok(Reach {
             source,
             entries,
             steps,
-            kept,
-            home,
-            hints,
         })
-    }
-
-    /// Appends the places of the legs on the way between a node and the source, and says whether the way is known.
-    pub(crate) fn push_way_of(&self, node: u32, places: &mut Vec<usize>) -> Result<bool, AllocError>
-        ensures { IfOk result (λ known. IsTrue known → (side : AnySide) (H : LevelsAndLegs) (links : List AnyLink) → IsTree side H links self.now → IsWayBack side H links self.now.source node places.old.items places.new.items) }
-    {
-        match self.place(node) {
-            Some(place) => self.push_way(place, places),
-            None => Ok(false),
-        }
-    }
-
-    /// Whether the source's entry is where it should be.
-    fn has_home(&self) -> bool
-        ensures { IsTrue result → (self.now.home < length self.now.entries.items) × ((entry_at self.now.entries.items self.now.home).0 ≡ self.now.source) }
-    {
-        self.home < self.entries.len() && self.entries[self.home].0 == self.source
-    }
-
-    /// Returns the place of the entry of a node, if there is one. Mostly it is where the hint says.
-    fn place(&self, node: u32) -> Option<usize>
-        ensures { MatchOption result ⊤ (λ k. (k < length self.now.entries.items) × ((entry_at self.now.entries.items k).0 ≡ node)) }
-    {
-        let hint = hint_at(&self.hints, node);
-        if hint < self.entries.len() && self.entries[hint].0 == node {
-            return Some(hint);
-        }
-        search_place(&self.entries, node)
-    }
-
-    /// Appends the places of the legs on the way between an entry and the source, and says whether the way is known.
-    pub(crate) fn push_way(&self, place: usize, places: &mut Vec<usize>) -> Result<bool, AllocError>
-        ensures { IfOk result (λ known. IsTrue known → (side : AnySide) (H : LevelsAndLegs) (links : List AnyLink) → IsTree side H links self.now → IsWayBack side H links self.now.source (entry_at self.now.entries.items place).0 places.old.items places.new.items) }
-    {
-        if !self.has_home() {
-            return Ok(false);
-        }
-        let home = self.home;
-        let mut at = place;
-        for _ in 0..self.entries.len() {
-            if at == home {
-                return Ok(true);
-            }
-            if at >= self.steps.len() {
-                return Ok(false);
-            }
-            let Some(step) = self.steps[at] else {
-                return Ok(false);
-            };
-            places.push(step.leg_place)?;
-            at = step.before;
-        }
-        Ok(false)
     }
 }
 
@@ -165,7 +142,7 @@ fn write_places(entries: &[(u32, Cost)], places: &mut [usize])
 }
 
 /// Returns the place of the entry of a node, if there is one. It may be written at the node.
-fn place_of(entries: &[(u32, Cost)], places: &[usize], node: u32) -> Option<usize>
+pub(crate) fn place_of(entries: &[(u32, Cost)], places: &[usize], node: u32) -> Option<usize>
     ensures { MatchOption result (ArePlaced entries.now (length entries.now) places.now → (k : ℕ) → k < length entries.now → (entry_at entries.now k).0 ≢ node) (λ k. (k < length entries.now) × ((entry_at entries.now k).0 ≡ node)) }
 {
     let node_place = node as usize;
@@ -178,53 +155,6 @@ fn place_of(entries: &[(u32, Cost)], places: &[usize], node: u32) -> Option<usiz
     } else {
         None
     }
-}
-
-/// Returns the place of the entry of a node, if there is one, by binary search.
-fn search_place(entries: &[(u32, Cost)], node: u32) -> Option<usize>
-    ensures { MatchOption result (AreInOrder entries.now → (k : ℕ) → k < length entries.now → (entry_at entries.now k).0 ≢ node) (λ k. (k < length entries.now) × ((entry_at entries.now k).0 ≡ node)) }
-{
-    match entries.binary_search_by_key(&node, |entry| entry.0) {
-        Ok(place) => Some(place),
-        Err(_) => None,
-    }
-}
-
-/// Returns hints for the entries that are kept. Of entries that share one, the last has it.
-fn hints_of(
-    alloc: Global,
-    entries: &[(u32, Cost)],
-    kept: &[(u32, Cost)],
-) -> Result<Vec<usize>, AllocError> {
-    let mut hints = vec![in alloc; 0; kept.len().saturating_mul(HINTS)]?;
-    write_hints(entries, kept, hints.as_mut_slice());
-    Ok(hints)
-}
-
-/// Writes the place of each entry that is kept at its hint.
-fn write_hints(entries: &[(u32, Cost)], kept: &[(u32, Cost)], hints: &mut [usize])
-    ensures { length hints.new ≡ length hints.old }
-{
-    let mut next = 0;
-    for i in 0..entries.len() {
-        let node = entries[i].0;
-        if next >= kept.len() || kept[next].0 != node {
-            continue;
-        }
-        next += 1;
-        let slots = hints.len();
-        if slots > 0 {
-            hints[node as usize % slots] = i;
-        }
-    }
-}
-
-/// Returns where the entry of a node may be.
-fn hint_at(hints: &[usize], node: u32) -> usize {
-    if hints.is_empty() {
-        return 0;
-    }
-    hints[node as usize % hints.len()]
 }
 
 /// Returns the entries but those to which a leg back shows a way that costs less.

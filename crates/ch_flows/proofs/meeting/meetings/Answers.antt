@@ -2,7 +2,7 @@
 use Rattle.std.proofs.Common.{◌≡◌, ◌+◌, length, ap, refl, sym, subst, ◌∙◌}
 use Rattle.std.proofs.lemmas.List.{with_items_is}
 use Rattle.ch_flows.specs.Meetings.{AreMeetings, AreStopsAt}
-use Rattle.ch_flows.specs.Trees.{entry_at}
+use Rattle.ch_flows.specs.Trees.{mark_at}
 use Rattle.ch_flows.proofs.meeting.meetings.Goals as goal
 
 pub loop-k-preserved : goal.loop-k-preserved
@@ -17,10 +17,10 @@ loop-k-preserved c =
     record {
       long = ap length written ∙ size ∙ inv.long;
       met = λ lists count order orders stops.
-          let node = (entry_at kept l.k).0 in
+          let node = (mark_at kept l.k).0 in
           let here = subst (AreStopsAt lists node) (sym c.row.ensures) (stops node (c.requires.nodes l.k c.loop-k-test.true)) in
           let before = subst (AreMeetings kept lists l.k) (sym slice) (inv.met lists count order orders stops) in
           subst (AreMeetings kept lists (l.k + 1)) (sym written)
-          (c.meet_at.ensures.met kept lists l.k c.loop-k-test.true refl (count ∙ sym inv.long ∙ ap length (sym slice)) order orders here
-          before);
+          (c.meet_at.ensures.met kept lists l.k node c.loop-k-test.true refl (count ∙ sym inv.long ∙ ap length (sym slice)) order orders
+          here before);
     }

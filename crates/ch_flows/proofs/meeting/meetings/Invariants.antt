@@ -1,13 +1,14 @@
 -- The entries before the current one are met.
 use Rattle.std.proofs.Common.{◌≡◌, ℕ, List, length, All}
-use Rattle.ch_graph.specs.declared.cost.Cost.{Cost as AnyCost}
+use Rattle.ch_flows.specs.declared.tree.Mark.{Mark as AnyMark}
 use Rattle.ch_flows.specs.Meetings.{AreMeetings, AreStops}
-use Rattle.ch_flows.specs.Trees.{AreInOrder}
+use Rattle.ch_flows.specs.Trees.{AreMarksInOrder}
 use Rattle.ch_flows.proofs.meeting.meetings.Given as goal
 
 abbrev pub invariant-loop-k : goal.invariant-loop-k
 invariant-loop-k l = record {
   long : length l.meetings.items ≡ l.trees;
-  met : (lists : List (List (ℕ × AnyCost))) → length lists ≡ l.trees → AreInOrder l.kept → All AreInOrder lists → AreStops l.stops lists →
+  met : (lists : List (List (ℕ × AnyMark))) → length lists ≡ l.trees → AreMarksInOrder l.kept → All AreMarksInOrder lists →
+      AreStops l.stops lists →
       AreMeetings l.kept lists l.k l.meetings.items;
 }
