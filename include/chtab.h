@@ -176,8 +176,10 @@ uint32_t chtab_open_arrays(chtab *handle, uint32_t nodes, const uint32_t *tails,
  * open handle `other` has, and only the last `fresh` per cent of them are ordered afresh, by depth. CHTAB_FRESH is mostly
  * right. If the weights are of another kind, such as metres in place of seconds, 25 is better. The graph has as many nodes as
  * that network. Its arcs and weights may differ in any way: answers are exact in each order, and only times depend on it.
- * With 100 per cent the hierarchy is that of chtab_open. `other` keeps its network, its weights and its places. Another
- * thread may ask that network meanwhile with a handle of its own, but not with one of these two.
+ * With 100 per cent the hierarchy is that of chtab_open. So it is with fewer if the order would join too many nodes: if more
+ * than 128 edges touch one of its nodes in its turn, before the last hundredth of all nodes. `other` keeps its network, its
+ * weights and its places. Another thread may ask that network meanwhile with a handle of its own, but not with one of these
+ * two.
  * Errors: CHTAB_IS_OPEN for `handle`, CHTAB_CLOSED for `other`; then CHTAB_BAD_GRAPH, CHTAB_OTHER_NODES, CHTAB_FRESH_RANGE,
  * in this order, and CHTAB_NO_MEMORY. All of these except the first two write `fault`; it is all 0 except for
  * CHTAB_BAD_GRAPH. Otherwise `fault` stays. */

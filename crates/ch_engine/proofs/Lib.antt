@@ -12,16 +12,17 @@ mod BuiltLike
 mod Orders
 mod RouteLines
 mod RouteSums
-mod Rows
 mod SameEnds
 mod SeenLines
 pub mod NearRows
 mod NearTable
 mod MeetingTrees
 mod PathTrees
+mod SparseSets
 mod SumMeets
 mod SumTrees
 mod TableSums
+mod TableWords
 mod TreeSums
 mod Ways
 mod WhichHierarchy

@@ -1,30 +1,27 @@
 -- Meetings of search trees with sums: the first of all is where the route meets, and the sums of both ways are that along it.
-use Rattle.std.proofs.Common.{◌≡◌, ◌≢◌, ℕ, ◌+◌, ◌<◌, ◌≤◌, List, [], ◌∷◌, ◌++◌, length, map, take, get_or}
+use Rattle.std.proofs.Common.{◌≡◌, ◌≢◌, ℕ, ◌+◌, ◌<◌, List, [], ◌++◌, length, map, get_or}
 use Rattle.std.proofs.Common.{set, replicate, All, Contains, Option, Some, None}
 use Rattle.std.proofs.Common.{inl, inr, refl, sym, ◌∙◌, ap, subst, arith}
-use Rattle.std.specs.Prelude.{◌⊎◌, ◌==◌}
-use Rattle.std.specs.List.{filter}
-use Rattle.std.proofs.lemmas.Bool.{cases_eq, cases_lt, eqb-true}
-use Rattle.std.proofs.lemmas.Bool.Decides.{nat_tests}
+use Rattle.std.proofs.lemmas.Bool.{cases_eq, cases_lt}
 use Rattle.std.proofs.lemmas.Option.{none-some, same_Some}
-use Rattle.std.proofs.lemmas.List.{get_or-replicate, get_or-set_other, get_or-set_same, get_or_default, get_or_past, length-replicate}
-use Rattle.std.proofs.lemmas.List.Elements.{All-contains, Contains-append_cases, Contains-append_left}
+use Rattle.std.proofs.lemmas.List.{get_or-replicate, get_or-set_other, get_or-set_same, length-replicate}
+use Rattle.std.proofs.lemmas.List.Elements.{Contains-append_cases, Contains-append_left}
 use Rattle.std.proofs.lemmas.List.Elements.{Contains-append_right, Contains-get_or}
 use Rattle.ch_graph.specs.declared.cost.Cost.{Cost}
-use Rattle.ch_graph.specs.Cost.{IsAtMost, IsBelow, cost_sum}
+use Rattle.ch_graph.specs.Cost.{IsAtMost, cost_sum}
 use Rattle.ch_graph.specs.Rows.{AreRowsOf}
-use Rattle.ch_graph.specs.Walk.{IsLeast, IsUnreachable}
+use Rattle.ch_graph.specs.Walk.{IsLeast}
 use Rattle.ch_graph.specs.WalkLaws.{IsWalkCost}
-use Rattle.ch_graph.proofs.CostOrder.{IsAtMost_antisymm, IsAtMost_refl, IsBelow-IsAtMost}
-use Rattle.ch_graph.proofs.Lists.{contains_filter, contains_filter_of, contains_map, contains_map_of, contains_none}
+use Rattle.ch_graph.proofs.CostOrder.{IsAtMost_antisymm}
+use Rattle.ch_graph.proofs.Lists.{contains_map, contains_map_of, contains_none}
 use Rattle.ch_graph.proofs.WalkCosts.{IsLeast-IsAtMost}
 use Rattle.ch_hierarchy.specs.Hierarchy.{LevelsAndLegs, nodes_of}
 use Rattle.ch_hierarchy.specs.KeptLaws.{IsLeastMeeting, MeetingsAreDistances}
 use Rattle.ch_hierarchy.specs.Paths.{IsMeet, IsMeeting, NeverMeets}
+use Rattle.ch_hierarchy.specs.declared.side.Side.{Side}
 use Rattle.ch_hierarchy.specs.declared.side.Side.TheVariants.{Up, Down}
 use Rattle.ch_hierarchy.proofs.theory.KeptWalks.{kept_has_walks, meetings_are_distances}
 use Rattle.ch_query.specs.Distance.{IsKeptForSome}
-use Rattle.ch_query.specs.Routes.{IsRouteBy}
 use Rattle.ch_query.specs.SearchSpace.{IsTight}
 use Rattle.ch_query.specs.TwoSided.{MeetsFirst}
 use Rattle.ch_query.proofs.one_side.End.{least_reached}
@@ -33,15 +30,15 @@ use Rattle.ch_query.proofs.two_sides.MeetingSteps.{first_trans}
 use Rattle.ch_engine.specs.declared.sum_meets.Met.{Met}
 use Rattle.ch_engine.specs.declared.sum_meets.Stop.{Stop}
 use Rattle.ch_engine.specs.declared.sum_trees.Branch.{Branch}
-use Rattle.ch_engine.specs.Held.{only}
 use Rattle.ch_engine.specs.LegSums.{unknown}
+use Rattle.ch_engine.specs.Slots.{IsSlotOf, named}
 use Rattle.ch_engine.specs.Lines.{Lines}
 use Rattle.ch_engine.specs.PathTrees.{IsRouteSum}
-use Rattle.ch_engine.specs.Routes.{IsFound}
-use Rattle.ch_engine.specs.TableSums.{AddsStops, AreBranches, AreCells, AreOffers, AreStopPairs, AreStops, AreStopsOf, CoverBranches}
-use Rattle.ch_engine.specs.TableSums.{CoverStops, Covers, IsBranch, IsCell, IsFirstMet, IsOffer, KeepsCovers}
+use Rattle.ch_engine.specs.TableSums.{AreBranches, AreCells, AreOffers, AreStopPairs, AreStops, CoverBranches}
+use Rattle.ch_engine.specs.TableSums.{CoverSlots, CoverStops, Covers, IsBranch, IsCell, IsFirstMet, IsOffer, KeepsCovers}
 use Rattle.ch_engine.specs.TableSums.{IsSmall, IsStopWithin, met_at, stop_pair}
 use Rattle.ch_engine.proofs.MeetingTrees.{route_over}
+use Rattle.ch_engine.proofs.SparseSets.{at_slot, slot_at}
 
 -- what is known covers what it comes first of
 covers_by : (known : Option Met) (e : Met) (v : ℕ) (cost : Cost) → known ≡ Some e → MeetsFirst (e.cost, e.node) (cost, v) →
@@ -140,19 +137,18 @@ stops_more v cost stops j row new are keeps here k d low = elim (cases_lt k j) [
 ]
 
 -- one more branch is covered
-pub branches_more : (branches : List Branch) (i : ℕ) (stops : List (List Stop)) (row new : List (Option Met)) →
-    CoverBranches branches i stops row → KeepsCovers row new →
-    ((d : Branch) → CoverStops (get_or branches i d).node (get_or branches i d).cost (get_or stops (get_or branches i d).node [])
-    (length (get_or stops (get_or branches i d).node [])) new) → CoverBranches branches (i + 1) stops new
-branches_more branches i stops row new are keeps here k d low = elim (cases_lt k i) [
-  | inl less ↦ (λ j e inside.
-      let all = get_or stops (get_or branches k d).node [] in
+pub branches_more : (branches : List Branch) (i : ℕ) (names : List ℕ) (stops : List (List Stop)) (row new : List (Option Met)) →
+    CoverBranches branches i names stops row → KeepsCovers row new →
+    ((d : Branch) → CoverSlots (get_or branches i d).node (get_or branches i d).cost names stops new) →
+    CoverBranches branches (i + 1) names stops new
+branches_more branches i names stops row new are keeps here k d low = elim (cases_lt k i) [
+  | inl less ↦ (λ q slot j e inside.
+      let all = get_or stops q [] in
       keeps (get_or all j e).place (get_or branches k d).node (cost_sum (get_or branches k d).cost (get_or all j e).cost)
-      (are k d less j e inside))
+      (are k d less q slot j e inside))
   | inr more ↦ (
       let same : i ≡ k = omega (arith, low, more) in
-      subst (λ (n : ℕ). CoverStops (get_or branches n d).node (get_or branches n d).cost (get_or stops (get_or branches n d).node [])
-      (length (get_or stops (get_or branches n d).node [])) new) same (here d))
+      subst (λ (n : ℕ). CoverSlots (get_or branches n d).node (get_or branches n d).cost names stops new) same (here d))
 ]
 
 module _ (H : LevelsAndLegs) (lines : Lines) (values targets : List ℕ) where
@@ -196,39 +192,27 @@ module _ (H : LevelsAndLegs) (lines : Lines) (values targets : List ℕ) where
         ];
       })
 
-  module _ (pairs : List (ℕ × Stop)) (are : AreStopPairs H lines values targets (length targets) pairs) where
-    -- their nodes are nodes
-    pub pairs_low : All (λ (p : ℕ × Stop). p.0 < nodes_of H) pairs
-    pairs_low k d inside =
-        let p = get_or pairs k d in
-        (are.sound p.0 p.1 (Contains-get_or pairs k d inside)).1.node
-
+  module _ (names : List ℕ) (pairs : List (ℕ × Stop)) (low : All (λ (p : ℕ × Stop). p.0 < length names) pairs)
+      (are : AreStopPairs H lines values targets (length targets) (named names pairs)) where
     -- the rows that they make are the stops
-    pub stops_are : (stops : List (List Stop)) → AreRowsOf (nodes_of H) pairs stops → AreStops H lines values targets stops
+    pub stops_are : (stops : List (List Stop)) → AreRowsOf (length names) pairs stops → AreStops H lines values targets names stops
     stops_are stops made = record {
-      sound = λ v stop has. elim (cases_lt v (nodes_of H)) [
-        | inl inside ↦ (
-            let there = subst (λ (l : List Stop). Contains l stop) (made.each v inside) has in
-            let r = contains_map_of (λ (e : ℕ × Stop). e.1) (filter (λ e. e.0 == v) pairs) stop there in
-            let f = contains_filter_of (λ e. e.0 == v) pairs r.0 r.1 in
-            let is : r.0 ≡ (v, stop) = λ i. (eqb-true _ _ f.1 i, r.2 i) in
-            are.sound v stop (subst (Contains pairs) is f.0))
-        | inr past ↦ absurd (
-            let none = get_or_past stops v [] (let count = made.count in omega (arith, past, count)) in
-            contains_none stop (subst (λ (l : List Stop). Contains l stop) none has))
-      ];
-      whole = λ c v cost low tight.
-          let own = are.whole c v cost low tight in
-          let stop : Stop = record { place = c; cost = cost; sum = own.0 } in
-          let inside : v < nodes_of H = (are.sound v stop own.1).1.node in (
-            own.0,
-            subst (λ (l : List Stop). Contains l stop) (sym (made.each v inside))
-                (contains_map (λ (e : ℕ × Stop). e.1) (filter (λ e. e.0 == v) pairs) (v, stop)
-                (contains_filter (λ e. e.0 == v) pairs (v, stop) own.1 (let e : v ≡ v = refl in grind (arith, nat_tests)))),
-          );
+      sound = λ i stop has. are.sound (get_or names i 0) stop (at_slot names pairs stops made i stop has);
+      whole = λ c v cost inside tight.
+          let own = are.whole c v cost inside tight in
+          let at = slot_at names pairs low stops made v (record { place = c; cost = cost; sum = own.0 }) own.1 in
+          (at.0, own.0, at.1, at.2);
     }
 
-  module _ (stops : List (List Stop)) (at : AreStops H lines values targets stops) (s : ℕ) (branches : List Branch)
+  -- the branches of a side are at nodes
+  pub branches_low : (side : Side) (s : ℕ) (branches : List Branch) → AreBranches side H lines values s branches → (n : ℕ) →
+      n ≡ nodes_of H → All (λ (e : Branch). e.node < n) branches
+  branches_low side s branches made n size k d low =
+      let is = made.sound (get_or branches k d) (Contains-get_or branches k d low) in
+      let node = is.node in
+      omega (arith, node, size)
+
+  module _ (names : List ℕ) (stops : List (List Stop)) (at : AreStops H lines values targets names stops) (s : ℕ) (branches : List Branch)
       (made : AreBranches Up H lines values s branches) where
     -- the stops are within the places of a row
     pub stops_within : (n : ℕ) → length targets ≡ n → (v : ℕ) → All (IsStopWithin n) (get_or stops v [])
@@ -238,17 +222,15 @@ module _ (H : LevelsAndLegs) (lines : Lines) (values targets : List ℕ) where
         let inside : stop.place < n = omega (arith, is.0, size) in
         (inside, (is.1.path.weight, is.1.arcs))
 
-    -- the branches are at nodes, and their costs are small
-    pub branches_within : (n : ℕ) → n ≡ nodes_of H → All (λ (e : Branch). (e.node < n) × IsSmall e.cost) branches
-    branches_within n size k d low =
-        let e = get_or branches k d in
-        let is = made.sound e (Contains-get_or branches k d low) in
-        let inside : e.node < n = omega (arith, is.node, size) in
-        (inside, (is.path.weight, is.arcs))
+    -- the costs of the branches are small
+    pub branches_small : All (λ (e : Branch). IsSmall e.cost) branches
+    branches_small k d low =
+        let is = made.sound (get_or branches k d) (Contains-get_or branches k d low) in
+        (is.path.weight, is.arcs)
 
     -- a row that covers all has the cells of s
     pub cells_are : (row : List (Option Met)) → length row ≡ length targets → AreOffers H lines values s targets row →
-        CoverBranches branches (length branches) stops row → AreCells H lines values s targets row
+        CoverBranches branches (length branches) names stops row → AreCells H lines values s targets row
     cells_are row size offers covers = (
       size,
       λ c low. record {
@@ -257,18 +239,16 @@ module _ (H : LevelsAndLegs) (lines : Lines) (values targets : List ℕ) where
             let first = made.whole v a up in
             let second = at.whole c v b low down in
             let e : Branch = record { node = v; cost = a; sum = first.0 } in
-            let stop : Stop = record { place = c; cost = b; sum = second.0 } in
+            let stop : Stop = record { place = c; cost = b; sum = second.1 } in
             let i = first.1.0 in
-            let j = second.1.0 in
+            let q = second.0 in
+            let j = second.3.0 in
             let here : get_or branches i e ≡ e = first.1.2 in
-            let list : get_or stops (get_or branches i e).node [] ≡ get_or stops v [] = ap (λ (x : Branch). get_or stops x.node []) here in
-            let inside : j < length (get_or stops (get_or branches i e).node []) =
-            subst (λ (l : List Stop). j < length l) (sym list) second.1.1 in
-            let there : get_or (get_or stops (get_or branches i e).node []) j stop ≡ stop =
-            ap (λ (l : List Stop). get_or l j stop) list ∙ second.1.2 in
+            let slot : IsSlotOf names (get_or branches i e).node q =
+            subst (λ (x : Branch). IsSlotOf names x.node q) (sym here) second.2 in
             subst (λ (x : Branch). Covers (met_at row c) x.node (cost_sum x.cost b)) here
-            (subst (λ (x : Stop). Covers (met_at row x.place) (get_or branches i e).node (cost_sum (get_or branches i e).cost x.cost)) there
-            (covers i e first.1.1 j stop inside));
+            (subst (λ (x : Stop). Covers (met_at row x.place) (get_or branches i e).node (cost_sum (get_or branches i e).cost x.cost))
+            second.3.2 (covers i e first.1.1 q slot j stop second.3.1));
       },
     )
 

@@ -1,10 +1,8 @@
 -- Sums along the ways back in a search tree: one step more adds the sum of its leg.
-use Rattle.std.proofs.Common.{◌≡◌, ◌≢◌, ℕ, ◌+◌, ◌<◌, ◌≤◌, List, [], ◌∷◌, ◌++◌, length, take, get_or, Contains}
+use Rattle.std.proofs.Common.{◌≡◌, ℕ, ◌+◌, ◌<◌, List, [], ◌∷◌, ◌++◌, length, take, get_or, Contains}
 use Rattle.std.proofs.Common.{inl, inr, refl, sym, ◌∙◌, ap, subst, arith}
 use Rattle.std.proofs.lemmas.List.{take_more}
 use Rattle.std.proofs.lemmas.List.Elements.{Contains-append_left, Contains-push, Contains-push_cases}
-use Rattle.ch_graph.specs.declared.limits.TheConstants.{MOST_NODES, MOST_PATH_ARCS}
-use Rattle.ch_graph.specs.declared.cost.Cost.{Cost}
 use Rattle.ch_graph.proofs.Lists.{contains_none}
 use Rattle.ch_hierarchy.specs.declared.leg.Leg.{Leg}
 use Rattle.ch_hierarchy.specs.Hierarchy.{IsLevelled, LevelsAndLegs}
@@ -17,10 +15,10 @@ use Rattle.ch_query.specs.SearchTree.{FollowsParents, IsSearchTree}
 use Rattle.ch_query.proofs.one_side.Expanding.{reached_arcs}
 use Rattle.ch_query.proofs.routing.Rows.{row_one, rows_ordered}
 use Rattle.ch_engine.specs.declared.sum_trees.Branch.{Branch}
-use Rattle.ch_engine.specs.LegSums.{IsRowLegSum, unknown}
+use Rattle.ch_engine.specs.LegSums.{IsRowLegSum}
 use Rattle.ch_engine.specs.Lines.{Lines}
 use Rattle.ch_engine.specs.PathTrees.{IsStepsSum}
-use Rattle.ch_engine.specs.TableSums.{AreBranches, AreSummed, IsBranch, IsSumBack}
+use Rattle.ch_engine.specs.TableSums.{AreBranches, AreSummed, IsSumBack}
 
 module _ (side : Side) (H : LevelsAndLegs) (lines : Lines) (values : List ℕ) (s : ℕ) (parents : List ℕ) where
   -- nothing is on the way from the source to itself

@@ -1,5 +1,5 @@
 -- Distances as words of 64 bits.
-use Rattle.std.specs.Prelude.{◌≡◌, ℕ, ◌-◌, ◌/◌, ◌%◌, ◌^◌, ◌<◌, List, [], length, slice_index, slice_index_or, Option, None, Some}
+use Rattle.std.specs.Prelude.{◌≡◌, ℕ, ◌-◌, ◌/◌, ◌%◌, ◌^◌, ◌<◌, List, length, slice_index, Option, None, Some}
 use Rattle.ch_hierarchy.specs.Hierarchy.{LevelsAndLegs}
 use Rattle.ch_query.specs.Distance.{IsDistanceBy}
 use Rattle.ch_query.specs.Limits.{IsCut}
@@ -32,8 +32,3 @@ abbrev pub AreTableCells : LevelsAndLegs → Option ℕ → List ℕ → List �
 AreTableCells H limit sources targets words =
     (k : ℕ) → k < length words → IsCell H limit (slice_index sources (k / length targets))
     (slice_index targets (k % length targets)) (slice_index words k)
-
--- the words are those of the rows' answers, row after row
-abbrev pub AreRowWords : List (List (Option ℕ)) → ℕ → List ℕ → Type 0
-AreRowWords rows columns words =
-    (k : ℕ) → k < length words → slice_index words k ≡ word_of (slice_index_or (slice_index_or rows (k / columns) []) (k % columns) None)

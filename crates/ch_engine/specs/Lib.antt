@@ -8,9 +8,11 @@ pub mod NearTable
 pub mod Refusals
 pub mod Routes
 pub mod RouteSums
+pub mod Slots
 pub mod Sums
 pub mod Opened
 pub mod PathTrees
 pub mod Flows
 pub mod Topologies
 pub mod TableSums
+pub mod Tables

@@ -1,5 +1,5 @@
 -- The hierarchy that an engine opens with.
-use Rattle.std.specs.Prelude.{◌≡◌, ℕ, ◌≤◌, List, [], ◌∷◌, map}
+use Rattle.std.specs.Prelude.{◌≡◌, ◌⊎◌, ℕ, ◌≤◌, List, [], ◌∷◌, map, take}
 use Rattle.ch_graph.specs.declared.arc.InArc.{InArc}
 use Rattle.ch_graph.specs.Graph.{Network, IsWithinLimits}
 use Rattle.ch_graph.specs.Saved.{OrderAndLegs}
@@ -9,7 +9,8 @@ use Rattle.ch_hierarchy.specs.Saved.{NamesHierarchy}
 use Rattle.ch_hierarchy.specs.Written.{IsByLevel}
 use Rattle.ch_contract.specs.declared.measure.OrderBy.TheVariants.{Depth}
 use Rattle.ch_contract.specs.Built.{IsHierarchyBy}
-use Rattle.ch_contract.specs.Like.{IsHierarchyLike}
+use Rattle.ch_contract.specs.Like.{IsHierarchyLike, given_count}
+use Rattle.ch_order.specs.Crowded.{HasCrowded}
 use Rattle.ch_order.specs.Quick.{IsHierarchyAfter}
 use Rattle.ch_read.specs.Names.{NamesGraph, NamesSaved}
 use Rattle.ch_engine.specs.Lines.{AreLines, Lines}
@@ -48,10 +49,20 @@ abbrev pub IsOpenedOfArrays : ℕ → List ℕ → List ℕ → List ℕ → Lis
 IsOpenedOfArrays n tails heads weights saved H lines = (g : Network) × IsOfArrays n tails heads weights g × IsWithinLimits g
     × IsKept g H × IsSavedOrQuick g saved H × AreLines g H lines
 
--- the hierarchy of a graph in the order of another hierarchy's levels, with so many per cent of the nodes ordered afresh,
--- and with witnesses of at most 5 legs
+-- the nodes of an order that come as given, where so many per cent of a graph's nodes are ordered afresh
+abbrev pub given_part : Network → List ℕ → ℕ → List ℕ
+given_part g order fresh = take (given_count g.nodes fresh) order
+
+-- the hierarchy of a graph in an order like a given one, with so many per cent of the nodes ordered afresh, and with witnesses
+-- of at most 5 legs. If one of the given nodes is crowded, it is the hierarchy by depth
+abbrev pub IsBuiltInOrder : Network → List ℕ → ℕ → LevelsAndLegs → Type 0
+IsBuiltInOrder g order fresh H =
+    (((v : ℕ) → HasCrowded g 5 (given_part g order fresh) v → ⊥) × IsHierarchyLike g 5 order fresh H)
+    ⊎ ((v : ℕ) × HasCrowded g 5 (given_part g order fresh) v × IsHierarchyBy Depth g 5 H)
+
+-- the same in the order of another hierarchy's levels
 abbrev pub IsBuiltLike : Network → LevelsAndLegs → ℕ → LevelsAndLegs → Type 0
-IsBuiltLike g other fresh H = (order : List ℕ) × IsByLevel other order × IsHierarchyLike g 5 order fresh H
+IsBuiltLike g other fresh H = (order : List ℕ) × IsByLevel other order × IsBuiltInOrder g order fresh H
 
 -- the hierarchy is right for the graph that the bytes name, and the lines are those of this graph's arcs. The hierarchy is
 -- built in the order of another one of as many nodes

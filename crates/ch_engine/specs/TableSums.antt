@@ -26,6 +26,7 @@ use Rattle.ch_engine.specs.LegSums.{unknown}
 use Rattle.ch_engine.specs.Lines.{Lines}
 use Rattle.ch_engine.specs.PathTrees.{IsDescentSum, IsStepsSum}
 use Rattle.ch_engine.specs.RouteSums.{IsPairSum, IsPairTooLarge}
+use Rattle.ch_engine.specs.Slots.{IsSlotOf}
 
 -- the sum along each way back from v that follows parents is this one, if it is known
 abbrev pub IsSumBack : Side → LevelsAndLegs → Lines → List ℕ → ℕ → List ℕ → ℕ → ℕ → Type 0
@@ -56,11 +57,11 @@ abbrev pub AreStopsOf : LevelsAndLegs → Lines → List ℕ → List ℕ → �
 AreStopsOf H lines values targets v stops = (stop : Stop) → Contains stops stop →
     (stop.place < length targets) × IsBranch Down H lines values (slice_index targets stop.place) v stop.cost stop.sum
 
--- at each node the branches of the targets
-pub record AreStops (H : LevelsAndLegs) (lines : Lines) (values targets : List ℕ) (stops : List (List Stop)) : Type 0 where
-  pub sound : (v : ℕ) → AreStopsOf H lines values targets v (slice_index_or stops v [])
+-- at the slot of each node the branches of the targets
+pub record AreStops (H : LevelsAndLegs) (lines : Lines) (values targets names : List ℕ) (stops : List (List Stop)) : Type 0 where
+  pub sound : (i : ℕ) → AreStopsOf H lines values targets (slice_index names i) (slice_index_or stops i [])
   pub whole : (c v : ℕ) (cost : Cost) → c < length targets → IsTight H Down (slice_index targets c) v cost →
-      (w : ℕ) × Contains (slice_index_or stops v []) (record { place = c; cost = cost; sum = w })
+      (i w : ℕ) × IsSlotOf names v i × Contains (slice_index_or stops i []) (record { place = c; cost = cost; sum = w })
 
 -- the sum of two such costs fits into words
 abbrev pub IsSmall : Cost → Type 0
@@ -71,7 +72,7 @@ abbrev pub IsStopWithin : ℕ → Stop → Type 0
 IsStopWithin n stop = (stop.place < n) × IsSmall stop.cost
 
 abbrev pub AreWithin : ℕ → List (List Stop) → Type 0
-AreWithin n stops = (v : ℕ) → All (IsStopWithin n) (slice_index_or stops v [])
+AreWithin n stops = (i : ℕ) → All (IsStopWithin n) (slice_index_or stops i [])
 
 -- a branch as a stop of place c, after its node
 abbrev pub stop_pair : ℕ → Branch → ℕ × Stop
@@ -122,11 +123,15 @@ abbrev pub CoverStops : ℕ → Cost → List Stop → ℕ → List (Option Met)
 CoverStops v cost stops n row = (k : ℕ) (d : Stop) → k < n →
     Covers (met_at row (slice_index_or stops k d).place) v (cost_sum cost (slice_index_or stops k d).cost)
 
+-- it covers those of a branch with all stops at the slot of its node
+abbrev pub CoverSlots : ℕ → Cost → List ℕ → List (List Stop) → List (Option Met) → Type 0
+CoverSlots v cost names stops row = (i : ℕ) → IsSlotOf names v i →
+    CoverStops v cost (slice_index_or stops i []) (length (slice_index_or stops i [])) row
+
 -- it covers those of the first branches with all stops
-abbrev pub CoverBranches : List Branch → ℕ → List (List Stop) → List (Option Met) → Type 0
-CoverBranches branches n stops row = (k : ℕ) (d : Branch) → k < n → CoverStops (slice_index_or branches k d).node
-    (slice_index_or branches k d).cost (slice_index_or stops (slice_index_or branches k d).node [])
-    (length (slice_index_or stops (slice_index_or branches k d).node [])) row
+abbrev pub CoverBranches : List Branch → ℕ → List ℕ → List (List Stop) → List (Option Met) → Type 0
+CoverBranches branches n names stops row = (k : ℕ) (d : Branch) → k < n →
+    CoverSlots (slice_index_or branches k d).node (slice_index_or branches k d).cost names stops row
 
 -- of an old meeting and a new one the first, by cost and then by node
 pub record IsFirstMet (old : Option Met) (new : Met) (result : Option Met) : Type 0 where

@@ -18,12 +18,13 @@ use crate::fault::{OpenError, Refusal};
 use crate::leg_sums::KeptSums;
 use crate::network::Network;
 use crate::opening::{opened, opened_like, opened_of_arrays, opened_quickly};
-use crate::words::{are_both_nodes, word_of, write_table};
+use crate::slots::Slots;
+use crate::sum_trees::TreeRoom;
+use crate::words::{are_both_nodes, word_of};
 use ch_graph::limits::MOST_LISTED;
 use ch_hierarchy::Hierarchy;
 use ch_near::KeptTargets;
 use ch_query::{Route, Scratch, distance, route};
-use ch_table::table_alone;
 use ch_text::save_text;
 use ch_tree::TreeScratch;
 use std::alloc::{AllocError, Global};
@@ -45,6 +46,10 @@ pub struct Engine {
     pub(crate) places: usize,
     /// The sums along all legs for some values of lines, if they were needed.
     pub(crate) sums: Option<KeptSums>,
+    /// The nodes or ranks that searches from the targets of a table reach, if there was a table. Only room for them is kept.
+    pub(crate) slots: Option<Slots>,
+    /// Room for search trees with sums, if they were needed.
+    pub(crate) trees: Option<TreeRoom>,
 }
 
 impl Model for Engine {
@@ -59,7 +64,7 @@ impl Model for Engine {
 
     ghost view = { λ engine. record { hierarchy = (arc_value engine.network).0; lines = (arc_value engine.network).1; near = option_map asked_by engine.kept } };
 
-    ghost invariant = { λ engine. (engine.scratch ≡ nodes_of (arc_value engine.network).0) × MatchOption engine.by_tree ⊤ (λ scratch. scratch ≡ nodes_of (arc_value engine.network).0) × MatchOption engine.kept ⊤ (AreKeptIn (arc_value engine.network).0) × MatchOption engine.kept ⊤ (λ kept. engine.places ≡ length (asked_by kept).targets) × MatchOption engine.sums ⊤ (AreKeptSums (arc_value engine.network).0 (arc_value engine.network).1) };
+    ghost invariant = { λ engine. (engine.scratch ≡ nodes_of (arc_value engine.network).0) × MatchOption engine.by_tree ⊤ (λ scratch. scratch ≡ nodes_of (arc_value engine.network).0) × MatchOption engine.kept ⊤ (AreKeptIn (arc_value engine.network).0) × MatchOption engine.kept ⊤ (λ kept. engine.places ≡ length (asked_by kept).targets) × MatchOption engine.sums ⊤ (AreKeptSums (arc_value engine.network).0 (arc_value engine.network).1) × MatchOption engine.slots ⊤ (λ slots. slots.numbers ≡ nodes_of (arc_value engine.network).0) };
 }
 
 impl Engine {
@@ -117,7 +122,8 @@ impl Engine {
     /// The hierarchy is built in the order of this engine's hierarchy, and only the last `fresh` per cent of the nodes are
     /// ordered afresh, by depth. The answers are as exact as those of [`Engine::open`], whatever changed. With 5 per cent
     /// this takes about 0.6 of the time of building by depth, and questions take up to a quarter longer, if the weights
-    /// are still of the same kind. With 100 per cent the hierarchy is the one by depth.
+    /// are still of the same kind. With 100 per cent the hierarchy is the one by depth. So it is with fewer, if more than 128 legs
+    /// touch one of the given nodes in its turn, while more than a hundredth of the nodes are left.
     ///
     /// # Errors
     /// The first fault of the graph's bytes, otherwise `OtherNodes` if the graph has another number of nodes, otherwise
@@ -145,6 +151,8 @@ impl Engine {
             kept: None,
             places: 0,
             sums: None,
+            slots: None,
+            trees: None,
         }))
     }
 
@@ -165,6 +173,8 @@ impl Engine {
             kept: None,
             places: 0,
             sums: None,
+            slots: None,
+            trees: None,
         })
     }
 
@@ -271,16 +281,21 @@ impl Engine {
         if sources.len() > most || targets.len() > most {
             return Err(Refusal::TooLarge);
         }
-        let hierarchy = self.network.hierarchy();
-        let table = table_alone(
+        Slots::keep(alloc, &mut self.slots, nodes)?;
+        let Some(slots) = &mut self.slots else {
+            return Err(Refusal::NoMemory);
+        };
+        // No cell is written before there is memory for all.
+        let words = self.network.table_words(
             alloc,
-            hierarchy,
             &mut self.scratch,
+            slots,
             sources,
             targets,
             within,
+            out.len(),
         )?;
-        write_table(&table, sources.len(), targets.len(), out);
+        out.copy_from_slice(&words);
         Ok(())
     }
 

@@ -1,7 +1,7 @@
 //! Engines: a network that is asked in the caller's own process. An engine is used by one thread at a time.
 //!
 //! It stands on ch_contract, ch_custom, ch_dissect, ch_flows, ch_graph, ch_hierarchy, ch_near, ch_order, ch_query, ch_read,
-//! ch_table, ch_text, ch_tree and thiserror. It starts no thread. An [`Engine`] has a hierarchy, room for its own searches, and the
+//! ch_text, ch_tree and thiserror. It starts no thread. An [`Engine`] has a hierarchy, room for its own searches, and the
 //! places of its near rows. Other engines may share the hierarchy. These statements are proved:
 //!
 //! - [`Engine::open`] gives a hierarchy that is right for the graph that the bytes name, or an error that is true of
@@ -31,10 +31,12 @@ mod roads;
 mod route_sums;
 mod route_trees;
 mod routes;
+mod slots;
 mod sum_meets;
 mod sum_trees;
 mod sums;
 mod table_sums;
+mod tables;
 mod topology;
 mod topology_error;
 mod words;

@@ -5,7 +5,8 @@ ghost use Rattle.ch_contract.specs.Built.{IsHierarchyBy};
 ghost use Rattle.ch_contract.specs.declared.measure.OrderBy.TheVariants as OrderBy;
 ghost use Rattle.ch_hierarchy.specs.Hierarchy.{nodes_of};
 ghost use Rattle.ch_hierarchy.specs.Kept.{IsKept};
-ghost use Rattle.ch_engine.specs.Opened.{IsOpened, IsOpenedLike, IsOpenedOfArrays, IsOpenedQuickly, IsSavedOrBuilt, IsSavedOrQuick};
+ghost use Rattle.ch_hierarchy.specs.Saved.{IsOrderOf};
+ghost use Rattle.ch_engine.specs.Opened.{IsBuiltInOrder, IsOpened, IsOpenedLike, IsOpenedOfArrays, IsOpenedQuickly, IsSavedOrBuilt, IsSavedOrQuick};
 ghost use Rattle.ch_order.specs.Quick.{IsHierarchyAfter};
 ghost use Rattle.ch_engine.specs.Refusals.{IsArraysOpenError, IsLikeError, IsOpenError, IsSavedError};
 
@@ -15,7 +16,7 @@ use crate::network::Network;
 use ch_contract::{HopBound, Percent};
 use ch_graph::Graph;
 use ch_hierarchy::{CheckError, Hierarchy};
-use ch_order::{OrderError, build_alone, build_like_alone, build_quickly_alone};
+use ch_order::{LikeError, build_alone, build_like_alone, build_quickly_alone};
 use ch_query::check_alone;
 use ch_read::{ReadError, read_graph, read_saved};
 use std::alloc::{AllocError, Global};
@@ -153,7 +154,7 @@ fn built_quickly(alloc: Global, roads: &Graph) -> Result<Hierarchy, AllocError>
 }
 
 /// Returns the network of the graph that the bytes name. Its hierarchy is built in the order of another one, and the last
-/// `fresh` per cent of the nodes are ordered afresh by depth.
+/// `fresh` per cent of the nodes are ordered afresh by depth. All are, if that order would join too many nodes by legs.
 ///
 /// # Errors
 /// The first fault of the bytes, otherwise `OtherNodes` if the other hierarchy has another number of nodes, otherwise
@@ -179,11 +180,27 @@ pub(crate) fn opened_like(
         return Err(OpenError::FreshRange);
     };
     let order = other.order(alloc)?;
-    let built = match build_like_alone(alloc, &roads, order.as_slice(), part, BUILT_HOPS) {
-        Ok(built) => built,
-        Err(OrderError::Order) => unreachable!(),
-        Err(OrderError::NoMemory) => return Err(OpenError::NoMemory),
-    };
+    let built = built_like(alloc, &roads, order.as_slice(), part)?;
     let lined = Network::of(alloc, &roads, built)?;
     Ok(lined)
+}
+
+/// Builds the hierarchy of a graph in an order like a given one, and by depth if that order would join too many nodes by legs.
+fn built_like(
+    alloc: Global,
+    roads: &Graph,
+    given: &[u32],
+    fresh: Percent,
+) -> Result<Hierarchy, AllocError>
+    requires order { IsOrderOf roads.now.nodes given.now }
+    ensures hierarchy { IfOk result (IsBuiltInOrder roads.now given.now fresh.number) }
+    ensures kept { IfOk result (IsKept roads.now) }
+    ensures limits { IsWithinLimits roads.now }
+{
+    match build_like_alone(alloc, roads, given, fresh, BUILT_HOPS) {
+        Ok(built) => Ok(built),
+        Err(LikeError::Crowded(_)) => built_by_depth(alloc, roads),
+        Err(LikeError::Order) => unreachable!(),
+        Err(LikeError::NoMemory) => Err(AllocError),
+    }
 }

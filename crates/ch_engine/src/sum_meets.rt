@@ -5,10 +5,12 @@ ghost use Rattle.ch_hierarchy.specs.Hierarchy.{LevelsAndLegs, nodes_of};
 ghost use Rattle.ch_hierarchy.specs.declared.side.Side.TheVariants.{Up as UpSide};
 ghost use Rattle.ch_engine.specs.LegSums.{AreKeptSums, unknown};
 ghost use Rattle.ch_engine.specs.Lines.{Lines};
-ghost use Rattle.ch_engine.specs.TableSums.{AddsStops, AreBranches, AreCells, AreOffers, AreStops, AreStopsOf, AreWithin, CoverBranches, CoverStops, IsBranch, IsFirstMet, IsSmall, IsStopWithin, KeepsCovers};
+ghost use Rattle.ch_engine.specs.Slots.{named};
+ghost use Rattle.ch_engine.specs.TableSums.{AddsStops, AreBranches, AreCells, AreOffers, AreStops, AreStopsOf, AreWithin, CoverBranches, CoverSlots, CoverStops, IsBranch, IsFirstMet, IsSmall, IsStopWithin, KeepsCovers};
 
 use crate::leg_sums::{KeptSums, joined};
 use crate::network::Network;
+use crate::slots::Slots;
 use crate::sum_trees::{Branch, TreeRoom};
 use ch_graph::{Cost, Rows};
 use ch_hierarchy::Side;
@@ -26,6 +28,14 @@ pub(crate) struct Stop {
     pub(crate) sum: u64,
 }
 
+/// The stops of all targets. Nodes without stops have no slot.
+#[derive(Drop)]
+pub(crate) struct Stops<'a> {
+    pub(crate) slots: &'a Slots,
+    /// By slot, the stops at its node.
+    pub(crate) rows: Rows<Stop>,
+}
+
 /// A node where two trees meet, with the sums of their costs and of their sums there.
 #[derive(Clone, Copy)]
 pub(crate) struct Met {
@@ -36,7 +46,8 @@ pub(crate) struct Met {
 }
 
 impl Network {
-    /// Returns for each node the branches of the targets there.
+    /// Gives slots to the nodes that branches of the targets reach, and to no others. Returns for each slot the branches at
+    /// its node.
     ///
     /// # Errors
     /// `AllocError` if there is no memory.
@@ -46,21 +57,25 @@ impl Network {
         scratch: &mut Scratch,
         kept: &KeptSums,
         targets: &[u32],
+        slots: &mut Slots,
         room: &mut TreeRoom,
     ) -> Result<Rows<Stop>, AllocError>
         requires scratch { scratch.old ≡ nodes_of self.now.0 }
+        requires slots { slots.old.numbers ≡ nodes_of self.now.0 }
         requires targets { All (λ node. node < nodes_of self.now.0) targets.now }
         requires kept { AreKeptSums self.now.0 self.now.1 kept.now }
-        ensures count { IfOk result (λ stops. length stops ≡ nodes_of self.now.0) }
-        ensures stops { IfOk result (AreStops self.now.0 self.now.1 kept.now.values.items targets.now) }
+        ensures count { IfOk result (λ stops. length stops ≡ length slots.new.names) }
+        ensures stops { IfOk result (AreStops self.now.0 self.now.1 kept.now.values.items targets.now slots.new.names) }
+        ensures slots { slots.new.numbers ≡ slots.old.numbers }
         ensures scratch { scratch.new ≡ scratch.old }
     {
+        slots.clear();
         let mut pairs = Vec::new(alloc);
         for c in 0..targets.len() {
             self.find_branches(alloc, scratch, kept, Side::Down, targets[c], room)?;
-            push_stops(c, &room.branches, &mut pairs)?;
+            push_stops(c, &room.branches, slots, &mut pairs)?;
         }
-        Rows::build(alloc, self.hierarchy().nodes(), &pairs)
+        Rows::build(alloc, slots.count(), &pairs)
     }
 
     /// Returns where the tree of a source meets those of the targets with these stops.
@@ -74,14 +89,14 @@ impl Network {
         kept: &KeptSums,
         source: u32,
         targets: &[u32],
-        stops: &Rows<Stop>,
+        stops: &Stops<'_>,
         room: &mut TreeRoom,
     ) -> Result<Vec<Option<Met>>, AllocError>
         requires scratch { scratch.old ≡ nodes_of self.now.0 }
         requires source { source < nodes_of self.now.0 }
         requires kept { AreKeptSums self.now.0 self.now.1 kept.now }
-        requires count { length stops.now ≡ nodes_of self.now.0 }
-        requires stops { AreStops self.now.0 self.now.1 kept.now.values.items targets.now stops.now }
+        requires count { length stops.now.rows ≡ length stops.now.slots.now.names }
+        requires stops { AreStops self.now.0 self.now.1 kept.now.values.items targets.now stops.now.slots.now.names stops.now.rows }
         ensures row { IfOk result (λ row. AreCells self.now.0 self.now.1 kept.now.values.items source targets.now row.items) }
         ensures scratch { scratch.new ≡ scratch.old }
     {
@@ -99,13 +114,18 @@ fn unmet(alloc: Global, cells: usize) -> Result<Vec<Option<Met>>, AllocError>
     vec![in alloc; None; cells]
 }
 
-/// Appends the branches of the target at this place, each after its node.
+/// Appends the branches of the target at this place, each after the slot of its node.
 fn push_stops(
     place: usize,
     branches: &[Branch],
+    slots: &mut Slots,
     pairs: &mut Vec<(u32, Stop)>,
 ) -> Result<(), AllocError>
-    ensures { OnOk result (AddsStops place branches.now pairs.old.items pairs.new.items) }
+    requires nodes { All (λ e. e.node < slots.old.numbers) branches.now }
+    requires pairs { All (λ p. p.0 < length slots.old.names) pairs.old.items }
+    ensures adds { OnOk result (AddsStops place branches.now (named slots.old.names pairs.old.items) (named slots.new.names pairs.new.items)) }
+    ensures pairs { OnOk result (All (λ p. p.0 < length slots.new.names) pairs.new.items) }
+    ensures slots { slots.new.numbers ≡ slots.old.numbers }
 {
     for branch in branches {
         let stop = Stop {
@@ -113,23 +133,41 @@ fn push_stops(
             cost: branch.cost,
             sum: branch.sum,
         };
-        pairs.push((branch.node, stop))?;
+        let slot = slots.slot_or_next(branch.node)?;
+        pairs.push((slot, stop))?;
     }
     Ok(())
 }
 
 /// Goes on with the meetings of a row by all branches of its source.
-fn meet_branches(branches: &[Branch], stops: &Rows<Stop>, row: &mut [Option<Met>])
-    requires branches { All (λ e. (e.node < length stops.now) × IsSmall e.cost) branches.now }
-    requires stops { AreWithin (length row.old) stops.now }
+fn meet_branches(branches: &[Branch], stops: &Stops<'_>, row: &mut [Option<Met>])
+    requires branches { All (λ e. IsSmall e.cost) branches.now }
+    requires count { length stops.now.rows ≡ length stops.now.slots.now.names }
+    requires stops { AreWithin (length row.old) stops.now.rows }
     ensures long { length row.new ≡ length row.old }
-    ensures covers { CoverBranches branches.now (length branches.now) stops.now row.new }
-    ensures offers { (H : LevelsAndLegs) (lines : Lines) (values targets : List ℕ) (s : ℕ) → length targets ≡ length row.old → AreBranches UpSide H lines values s branches.now → AreStops H lines values targets stops.now → AreOffers H lines values s targets row.old → AreOffers H lines values s targets row.new }
+    ensures covers { CoverBranches branches.now (length branches.now) stops.now.slots.now.names stops.now.rows row.new }
+    ensures offers { (H : LevelsAndLegs) (lines : Lines) (values targets : List ℕ) (s : ℕ) → length targets ≡ length row.old → AreBranches UpSide H lines values s branches.now → AreStops H lines values targets stops.now.slots.now.names stops.now.rows → AreOffers H lines values s targets row.old → AreOffers H lines values s targets row.new }
 {
     for i in 0..branches.len() {
         let branch = branches[i];
-        meet_stops(branch, stops.row(branch.node), row);
+        meet_branch(branch, stops, row);
     }
+}
+
+/// Goes on with the meetings of a row by a branch and the stops at its node, if it has some.
+fn meet_branch(branch: Branch, stops: &Stops<'_>, row: &mut [Option<Met>])
+    requires branch { IsSmall branch.cost }
+    requires count { length stops.now.rows ≡ length stops.now.slots.now.names }
+    requires stops { AreWithin (length row.old) stops.now.rows }
+    ensures long { length row.new ≡ length row.old }
+    ensures keeps { KeepsCovers row.old row.new }
+    ensures covers { CoverSlots branch.node branch.cost stops.now.slots.now.names stops.now.rows row.new }
+    ensures offers { (H : LevelsAndLegs) (lines : Lines) (values targets : List ℕ) (s : ℕ) → length targets ≡ length row.old → IsBranch UpSide H lines values s branch.node branch.cost branch.sum → AreStops H lines values targets stops.now.slots.now.names stops.now.rows → AreOffers H lines values s targets row.old → AreOffers H lines values s targets row.new }
+{
+    let Some(slot) = stops.slots.slot(branch.node) else {
+        return;
+    };
+    meet_stops(branch, stops.rows.row(slot), row);
 }
 
 /// Goes on with the meetings of a row by a branch and the stops at its node.

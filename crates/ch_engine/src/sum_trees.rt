@@ -1,5 +1,5 @@
 //! Search trees with the sums of values along their legs.
-ghost use Rattle.std.specs.Prelude.{◌≡◌, ◌≢◌, ◌<◌, ℕ, List, slice_index, Contains, OnOk};
+ghost use Rattle.std.specs.Prelude.{◌≡◌, ◌≢◌, ◌<◌, ℕ, List, slice_index, Contains, IsSome, OnOk};
 ghost use Rattle.ch_hierarchy.specs.Hierarchy.{nodes_of};
 ghost use Rattle.ch_query.specs.Distance.{IsKeptForSome};
 ghost use Rattle.ch_query.specs.SearchTree.{IsSearchTree};
@@ -25,26 +25,39 @@ pub(crate) struct Branch {
     pub(crate) sum: u64,
 }
 
-/// What is needed for one search tree after the other.
+/// What is needed for one search tree after the other. An engine keeps it from call to call.
 #[derive(Drop)]
 pub(crate) struct TreeRoom {
     /// The tree that was found last.
     tree: Vec<TreeNode>,
-    /// By node, the place of its branch, if it has one.
+    /// By node, where its branch may be. Only a branch of this node is one, so places of earlier trees do no harm.
     places: Vec<usize>,
     /// The branches of the tree that was found last.
     pub(crate) branches: Vec<Branch>,
 }
 
 impl TreeRoom {
-    /// Makes room for trees in a network of `nodes` nodes.
-    pub(crate) fn new(alloc: Global, nodes: u32) -> Result<TreeRoom, AllocError> {
+    /// Makes room for trees in a network of `nodes` nodes, unless there is room already.
+    ///
+    /// # Errors
+    /// `AllocError` if there is no memory. Then there is none.
+    pub(crate) fn keep(
+        alloc: Global,
+        kept: &mut Option<TreeRoom>,
+        nodes: u32,
+    ) -> Result<(), AllocError>
+        ensures { OnOk result (IsSome kept.new) }
+    {
+        if kept.is_some() {
+            return Ok(());
+        }
         let places = vec![in alloc; 0; nodes as usize]?;
-        Ok(TreeRoom {
+        *kept = Some(TreeRoom {
             tree: Vec::new(alloc),
             places,
             branches: Vec::new(alloc),
-        })
+        });
+        Ok(())
     }
 }
 

@@ -16,11 +16,11 @@ use crate::leg_sums::{KeptSums, UNKNOWN};
 use crate::network::Network;
 use crate::route_sums::write_pair;
 use crate::routes::weight_of;
-use crate::sum_meets::{Met, Stop};
+use crate::slots::Slots;
+use crate::sum_meets::{Met, Stops};
 use crate::sum_trees::TreeRoom;
 use crate::words::{NO_DISTANCE, are_both_nodes};
 use crate::written::{Summed, SumsEnd};
-use ch_graph::Rows;
 use ch_query::{Route, Scratch, route};
 use std::alloc::{AllocError, Global};
 
@@ -82,14 +82,24 @@ impl Engine {
         ensures behind { StaysFrom result.count weights.old weights.new × StaysFrom result.count sums.old sums.new }
         ensures same { self.new ≡ self.old }
     {
-        let none = Summed {
-            count: 0,
-            end: SumsEnd::NoMemory,
-        };
+        let none = ended(0, SumsEnd::NoMemory);
+        let nodes = self.nodes();
         let Ok(()) = self.network.keep_sums(alloc, &mut self.sums, values) else {
             return none;
         };
+        let Ok(()) = Slots::keep(alloc, &mut self.slots, nodes) else {
+            return none;
+        };
+        let Ok(()) = TreeRoom::keep(alloc, &mut self.trees, nodes) else {
+            return none;
+        };
         let Some(kept) = &self.sums else {
+            return none;
+        };
+        let Some(slots) = &mut self.slots else {
+            return none;
+        };
+        let Some(room) = &mut self.trees else {
             return none;
         };
         self.network.write_table(
@@ -98,6 +108,8 @@ impl Engine {
             kept,
             sources,
             targets,
+            slots,
+            room,
             weights,
             sums,
         )
@@ -113,10 +125,13 @@ impl Network {
         kept: &KeptSums,
         sources: &[u32],
         targets: &[u32],
+        slots: &mut Slots,
+        room: &mut TreeRoom,
         weights: &mut [u64],
         sums: &mut [u64],
     ) -> Summed
         requires scratch { scratch.old ≡ nodes_of self.now.0 }
+        requires slots { slots.old.numbers ≡ nodes_of self.now.0 }
         requires lines { IsOfSome self.now.0 self.now.1 }
         requires kept { AreKeptSums self.now.0 self.now.1 kept.now }
         requires cells { (length weights.old ≡ length sources.now * length targets.now) × (length sums.old ≡ length sources.now * length targets.now) }
@@ -125,16 +140,18 @@ impl Network {
         requires targets { AreNodes (nodes_of self.now.0) targets.now }
         ensures written { AreTableSumsWritten (only self.now.0 self.now.1) sources.now targets.now kept.now.values.items weights.new sums.new result }
         ensures behind { StaysFrom result.count weights.old weights.new × StaysFrom result.count sums.old sums.new }
+        ensures slots { slots.new.numbers ≡ slots.old.numbers }
         ensures scratch { scratch.new ≡ scratch.old }
     {
-        let Ok(mut room) = TreeRoom::new(alloc, self.hierarchy().nodes()) else {
+        let Ok(rows) = self.find_stops(alloc, scratch, kept, targets, slots, room) else {
             return ended(0, SumsEnd::NoMemory);
         };
-        let Ok(stops) = self.find_stops(alloc, scratch, kept, targets, &mut room) else {
-            return ended(0, SumsEnd::NoMemory);
+        let stops = Stops {
+            slots: &*slots,
+            rows,
         };
         self.write_rows(
-            alloc, scratch, kept, sources, targets, &stops, &mut room, weights, sums,
+            alloc, scratch, kept, sources, targets, &stops, room, weights, sums,
         )
     }
 
@@ -146,7 +163,7 @@ impl Network {
         kept: &KeptSums,
         sources: &[u32],
         targets: &[u32],
-        stops: &Rows<Stop>,
+        stops: &Stops<'_>,
         room: &mut TreeRoom,
         weights: &mut [u64],
         sums: &mut [u64],
@@ -158,8 +175,8 @@ impl Network {
         requires values { length kept.now.values.items ≡ self.now.1.count }
         requires sources { AreNodes (nodes_of self.now.0) sources.now }
         requires targets { AreNodes (nodes_of self.now.0) targets.now }
-        requires count { length stops.now ≡ nodes_of self.now.0 }
-        requires stops { AreStops self.now.0 self.now.1 kept.now.values.items targets.now stops.now }
+        requires count { length stops.now.rows ≡ length stops.now.slots.now.names }
+        requires stops { AreStops self.now.0 self.now.1 kept.now.values.items targets.now stops.now.slots.now.names stops.now.rows }
         ensures written { AreTableSumsWritten (only self.now.0 self.now.1) sources.now targets.now kept.now.values.items weights.new sums.new result }
         ensures behind { StaysFrom result.count weights.old weights.new × StaysFrom result.count sums.old sums.new }
         ensures scratch { scratch.new ≡ scratch.old }
@@ -187,7 +204,7 @@ impl Network {
         kept: &KeptSums,
         source: u32,
         targets: &[u32],
-        stops: &Rows<Stop>,
+        stops: &Stops<'_>,
         room: &mut TreeRoom,
         first: usize,
         weights: &mut [u64],
@@ -199,8 +216,8 @@ impl Network {
         requires values { length kept.now.values.items ≡ self.now.1.count }
         requires lines { IsOfSome self.now.0 self.now.1 }
         requires kept { AreKeptSums self.now.0 self.now.1 kept.now }
-        requires count { length stops.now ≡ nodes_of self.now.0 }
-        requires stops { AreStops self.now.0 self.now.1 kept.now.values.items targets.now stops.now }
+        requires count { length stops.now.rows ≡ length stops.now.slots.now.names }
+        requires stops { AreStops self.now.0 self.now.1 kept.now.values.items targets.now stops.now.slots.now.names stops.now.rows }
         requires fits { (first + length targets.now ≤ length weights.old) × (first + length targets.now ≤ length sums.old) }
         ensures cells { AreRowSums (only self.now.0 self.now.1) kept.now.values.items source targets.now first weights.new sums.new result.0 }
         ensures end { IsRowEnd (only self.now.0 self.now.1) kept.now.values.items source targets.now result.0 result.1 }

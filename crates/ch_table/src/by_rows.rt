@@ -1,4 +1,4 @@
-//! Tables made row by row: each row by one worker, or all rows by the caller alone.
+//! Tables made row by row: each row by one worker.
 ghost use Rattle.std.specs.Prelude.{◌≡◌, ◌<◌, ◌≤◌, length, All, IfOk, OnOk};
 ghost use Rattle.std.specs.List.{AllZip};
 ghost use Rattle.ch_graph.specs.declared.limits.TheConstants.{MOST_LISTED};
@@ -8,16 +8,14 @@ ghost use Rattle.ch_query.specs.Distance.{IsKeptForSome};
 ghost use Rattle.ch_query.specs.SearchSpace.{IsRankedSpace};
 ghost use Rattle.ch_table.specs.Table.{AreGathered, IsRowBy};
 
-use crate::cells::Table;
 use crate::row::{RowRoom, Words, write_cells};
 use crate::row_job::RowJob;
 use ch_graph::{Rows, UNREACHED, gather};
 use ch_hierarchy::{Hierarchy, Side};
-use ch_query::{Scratch, Start, lower_by_search, ranked_spaces, ranked_spaces_alone};
+use ch_query::{Scratch, Start, lower_by_search, ranked_spaces};
 use ch_work::{Crew, Gate, RoomJob, Stage, run_pieces_in};
 use std::alloc::{AllocError, Global};
 use std::marker::Model;
-use std::mem;
 use std::thread::Threads;
 
 /// Gathers the rows as the job says, row by row.
@@ -51,34 +49,6 @@ pub(crate) fn gather_by_rows<R: Threads + Sync, G: Gate, J: RowJob>(
         &mut scratches,
         &GatheredRows { rows, sources, job },
     )
-}
-
-/// Returns the distances from each source to each target, as [`table`](crate::table) does, by the caller
-/// alone. It starts no thread, passes no gate, and uses a scratch of the caller. The scratch has room for
-/// the number of nodes.
-///
-/// # Errors
-/// `AllocError` if there is no memory. The scratch can still be used.
-pub fn table_alone(
-    alloc: Global,
-    hierarchy: &Hierarchy,
-    scratch: &mut Scratch,
-    sources: &[u32],
-    targets: &[u32],
-    within: Option<u64>,
-) -> Result<Table, AllocError>
-    requires kept { IsKeptForSome hierarchy.now }
-    requires scratch { scratch.old ≡ nodes_of hierarchy.now }
-    requires sources { All (λ s. s < nodes_of hierarchy.now) sources.now }
-    requires targets { All (λ t. t < nodes_of hierarchy.now) targets.now }
-    requires lists { (length sources.now ≤ MOST_LISTED) × (length targets.now ≤ MOST_LISTED) }
-    ensures table { IfOk result (AllZip (IsRowBy hierarchy.now within targets.now) sources.now) }
-    ensures scratch { scratch.new ≡ scratch.old }
-{
-    let spaces = ranked_spaces_alone(alloc, hierarchy, scratch, targets, Side::Down, within)?;
-    let source_rows = SourceRows::of(alloc, hierarchy, targets, within, spaces)?;
-    let rows = source_rows.rows_alone(alloc, scratch, sources)?;
-    Ok(Table { rows })
 }
 
 /// What the rows of all sources are made of: the buckets of the targets.
@@ -123,27 +93,6 @@ impl<'a> SourceRows<'a> {
             within,
             buckets,
         })
-    }
-
-    /// Returns the rows of these sources, one after the other.
-    fn rows_alone(
-        &self,
-        alloc: Global,
-        scratch: &mut Scratch,
-        sources: &[u32],
-    ) -> Result<Vec<Vec<Option<u64>>>, AllocError>
-        requires scratch { scratch.old ≡ nodes_of self.now.hierarchy }
-        requires sources { All (λ s. s < nodes_of self.now.hierarchy) sources.now }
-        ensures rows { IfOk result (λ rows. AllZip (λ s row. IsRowBy self.now.hierarchy self.now.limit self.now.targets s row.items) sources.now rows.items) }
-        ensures scratch { scratch.new ≡ scratch.old }
-    {
-        let mut room = RowRoom::new(alloc);
-        let mut rows = Vec::with_capacity(alloc, sources.len())?;
-        for source in sources {
-            self.write_row(scratch, &mut room, *source)?;
-            rows.push_reserved(mem::replace(&mut room.cells, Vec::new(alloc)));
-        }
-        Ok(rows)
     }
 
     /// Writes the cells of the row of a source into the room, by a search in this scratch.

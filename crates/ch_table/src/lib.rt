@@ -23,7 +23,6 @@ mod row_job;
 mod sums;
 
 pub use buckets::Buckets;
-pub use by_rows::table_alone;
 pub use cells::Table;
 pub use many_to_many::{gather_rows, table};
 pub use row_job::RowJob;

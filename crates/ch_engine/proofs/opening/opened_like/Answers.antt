@@ -4,10 +4,9 @@ use Rattle.std.proofs.Math.Nat.{lt_of_not-le}
 use Rattle.std.proofs.lemmas.Bool.{false≢true}
 use Rattle.ch_hierarchy.specs.Hierarchy.{nodes_of}
 use Rattle.ch_hierarchy.specs.Kept.{IsKept}
-use Rattle.ch_contract.specs.Like.{IsHierarchyLike}
 use Rattle.ch_read.specs.Checks.{IsFault}
 use Rattle.ch_read.specs.declared.form.Form.TheVariants.{Graph}
-use Rattle.ch_engine.specs.Opened.{IsBuiltLike}
+use Rattle.ch_engine.specs.Opened.{IsBuiltInOrder, IsBuiltLike}
 use Rattle.ch_engine.proofs.opening.opened_like.Goals as goal
 
 pub returns-in-Err-Fault-clause-error : goal.returns-in-Err-Fault-clause-error
@@ -34,8 +33,8 @@ returns-in_default-clause-error c =
 pub returns-clause-value : goal.returns-clause-value
 returns-clause-value c =
     let roads = c.in-Ok.roads in
-    let built = c.in-Ok-build_like_alone.built in
-    let by = c.in-Ok-build_like_alone.ensures in
+    let built = c.in_ok-built.built in
+    let by = c.in_ok-built.ensures in
     let order = c.in_ok-order.order.items in
     let given : c.as_slice.result.now ≡ order = c.as_slice.ensures.value in
     let same : c.in_ok-lined.lined.0 ≡ built = c.in_ok-lined.ensures.hierarchy in
@@ -46,8 +45,8 @@ returns-clause-value c =
     let like : IsBuiltLike roads c.args.other.now c.args.fresh built = (
       order,
       record { nodes = c.in_ok-order.ensures.order; levels = c.in_ok-order.ensures.levels },
-      subst (λ n. IsHierarchyLike roads 5 order n built) number
-          (subst (λ (l : List ℕ). IsHierarchyLike roads 5 l part.number built) given by.hierarchy),
+      subst (λ n. IsBuiltInOrder roads order n built) number
+          (subst (λ (l : List ℕ). IsBuiltInOrder roads l part.number built) given by.hierarchy),
     ) in (
       roads,
       (c.in-Ok.ensures.value roads).0 refl,

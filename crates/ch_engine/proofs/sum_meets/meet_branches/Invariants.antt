@@ -9,8 +9,8 @@ use Rattle.ch_engine.proofs.sum_meets.meet_branches.Given as goal
 abbrev pub invariant-loop-i : goal.invariant-loop-i
 invariant-loop-i l = record {
   long : length l.row ≡ length l.fn.row;
-  covers : CoverBranches l.branches l.i l.stops l.row;
+  covers : CoverBranches l.branches l.i l.stops.slots.now.names l.stops.rows l.row;
   offers : (H : LevelsAndLegs) (lines : Lines) (values targets : List ℕ) (s : ℕ) → length targets ≡ length l.fn.row →
-      AreBranches Up H lines values s l.branches → AreStops H lines values targets l.stops →
+      AreBranches Up H lines values s l.branches → AreStops H lines values targets l.stops.slots.now.names l.stops.rows →
       AreOffers H lines values s targets l.fn.row → AreOffers H lines values s targets l.row;
 }

@@ -1,10 +1,9 @@
 -- One more stop is met.
-use Rattle.std.proofs.Common.{◌≡◌, ◌<◌, ℕ, List, Option, None, get_or, length, set, refl, sym, ◌∙◌, ap, subst, arith}
+use Rattle.std.proofs.Common.{◌≡◌, ◌<◌, ℕ, None, get_or, length, set, refl, ◌∙◌, subst, arith}
 use Rattle.std.proofs.Math.ListN.{length-set}
 use Rattle.std.proofs.lemmas.List.{get_or_default}
 use Rattle.std.proofs.lemmas.List.Elements.{Contains-get_or}
 use Rattle.ch_graph.specs.Cost.{cost_sum}
-use Rattle.ch_engine.specs.declared.sum_meets.Met.{Met}
 use Rattle.ch_engine.specs.declared.sum_meets.Stop.{Stop}
 use Rattle.ch_engine.specs.TableSums.{Covers, CoverStops, met_at}
 use Rattle.ch_engine.proofs.SumMeets.{covers_new, covers_still, offer_of, offers_more, stops_more}

@@ -1,10 +1,9 @@
 -- The sum on the way back is that of the parent and that of the leg from there, if both are known.
-use Rattle.std.proofs.Common.{◌≡◌, ℕ, sym, ap, subst, ◌∙◌}
+use Rattle.std.proofs.Common.{ℕ, sym, subst, ◌∙◌}
 use Rattle.std.specs.Prelude.{List}
 use Rattle.ch_query.specs.Routes.{DescentStep, IsDescent}
 use Rattle.ch_query.specs.SearchTree.{FollowsParents}
 use Rattle.ch_hierarchy.specs.Side.{rows_of}
-use Rattle.ch_engine.specs.LegSums.{IsRowLegSum}
 use Rattle.ch_engine.specs.PathTrees.{IsStepsSum}
 use Rattle.ch_engine.proofs.SumTrees.{back_more, back_none}
 use Rattle.ch_engine.proofs.sum_trees.sum_back.Goals as goal

@@ -1,5 +1,5 @@
 -- One more node has its sum, and in the end all are the branches of the source.
-use Rattle.std.proofs.Common.{◌≡◌, ℕ, List, Contains, get_or, length, take, refl, sym, ◌∙◌, subst, take_all, arith}
+use Rattle.std.proofs.Common.{◌≡◌, List, Contains, get_or, sym, ◌∙◌, subst, take_all}
 use Rattle.std.proofs.lemmas.List.{get_or_default}
 use Rattle.std.proofs.lemmas.List.Elements.{Contains-get_or}
 use Rattle.ch_query.specs.declared.sides.growing.TreeNode.{TreeNode}

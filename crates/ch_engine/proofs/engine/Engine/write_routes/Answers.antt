@@ -1,7 +1,10 @@
 -- One more route is behind those before it, with its weight, its end, its nodes and their lines.
-use Rattle.std.proofs.Common.{◌≡◌, ◌∙◌, ◌+◌, ◌<◌, ◌≤◌, length, set, slice_index, sym, ap, subst, arith}
+use Rattle.std.proofs.Common.{◌≡◌, ◌∙◌, ◌+◌, ◌<◌, ◌≤◌, length, set, slice_index, All, sym, ap, subst, arith}
+use Rattle.std.specs.Prelude.{MatchOption, ⊤}
 use Rattle.std.proofs.lemmas.List.{get_or-set_same, length-set}
-use Rattle.ch_hierarchy.specs.Hierarchy.{LevelsAndLegs}
+use Rattle.ch_graph.specs.Graph.{HasEnds}
+use Rattle.ch_hierarchy.specs.Hierarchy.{LevelsAndLegs, nodes_of}
+use Rattle.ch_query.specs.declared.routes.Route.{Route}
 use Rattle.ch_engine.specs.Held.{Held}
 use Rattle.ch_engine.specs.Lines.{Lines}
 use Rattle.ch_engine.specs.Routes.{AreNoted, IsFound, nodes_from}
@@ -9,6 +12,17 @@ use Rattle.ch_engine.proofs.NearRows.{begin_next, ends_low, set_stays, stays_mor
 use Rattle.ch_engine.proofs.RouteLines.{route_lines}
 use Rattle.ch_engine.proofs.Ways.{routes_more}
 use Rattle.ch_engine.proofs.engine.Engine.write_routes.Goals as goal
+
+pub note_route-requires-clause-ends : goal.note_route-requires-clause-ends
+note_route-requires-clause-ends c =
+    let v = c.loop-i.invariant in
+    let answer = c.in-Ok.answer in
+    let hierarchy : c.deref.result.now.0 ≡ c.args.self.now.hierarchy =
+    ap (λ (n : LevelsAndLegs × Lines). n.0) c.deref.ensures
+    ∙ ap (λ (h : Held). h.hierarchy) (c.self.view_is ∙ c.find_route.ensures.same ∙ v.same) in
+    subst (λ (G : LevelsAndLegs). MatchOption answer ⊤ (λ (route : Route). All (HasEnds (nodes_of G)) route.arcs)) (sym hierarchy)
+    (subst (λ (h : Held). MatchOption answer ⊤ (λ (route : Route). All (HasEnds (nodes_of h.hierarchy)) route.arcs)) v.same
+    c.in-Ok.ensures.ends)
 
 pub loop-i-preserved : goal.loop-i-preserved
 loop-i-preserved c =

@@ -1,5 +1,5 @@
 -- The sums that are kept are those for these values, and what is written for the network is so for the engine.
-use Rattle.std.proofs.Common.{◌≡◌, ℕ, List, Option, ap, subst, ◌∙◌}
+use Rattle.std.proofs.Common.{◌≡◌, Option, ap, subst, ◌∙◌}
 use Rattle.std.specs.Prelude.{MatchOption, ⊤}
 use Rattle.ch_engine.specs.Held.{Held}
 use Rattle.ch_engine.specs.declared.leg_sums.KeptSums.{KeptSums}

@@ -1,8 +1,8 @@
 -- The cell is known by its meeting, or its route is found and its values are added up.
-use Rattle.std.proofs.Common.{◌≡◌, ℕ, Option, refl, sym, subst}
+use Rattle.std.proofs.Common.{ℕ, Option, subst}
 use Rattle.std.specs.Prelude.{MatchOption, ⊤}
 use Rattle.ch_engine.specs.Held.{only}
-use Rattle.ch_engine.specs.RouteSums.{IsPairSum, IsSumAlong}
+use Rattle.ch_engine.specs.RouteSums.{IsPairSum}
 use Rattle.ch_engine.proofs.network.Network.cell_sum.Goals as goal
 
 pub sum_along-requires-clause-route : goal.sum_along-requires-clause-route

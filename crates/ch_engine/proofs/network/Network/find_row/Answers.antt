@@ -1,11 +1,11 @@
 -- The branches of the source meet the stops of all targets, and the row has the cells of the source.
-use Rattle.std.proofs.Common.{◌≡◌, ℕ, List, None, length, replicate, sym, ◌∙◌, ap, subst}
+use Rattle.std.proofs.Common.{◌≡◌, List, None, length, sym, ◌∙◌, ap, subst}
 use Rattle.std.specs.Vec.{with_items}
 use Rattle.std.proofs.lemmas.List.{length-replicate, with_items_is}
 use Rattle.ch_hierarchy.specs.declared.side.Side.TheVariants.{Up}
 use Rattle.ch_engine.specs.declared.sum_trees.Branch.{Branch}
 use Rattle.ch_engine.specs.TableSums.{AreBranches, AreCells, AreOffers}
-use Rattle.ch_engine.proofs.SumMeets.{branches_within, cells_are, offers_none, stops_within}
+use Rattle.ch_engine.proofs.SumMeets.{branches_small, cells_are, offers_none, stops_within}
 use Rattle.ch_engine.proofs.network.Network.find_row.Goals as goal
 
 pub meet_branches-requires-clause-branches : goal.meet_branches-requires-clause-branches
@@ -14,8 +14,8 @@ meet_branches-requires-clause-branches c =
     let values = c.args.kept.now.values.items in
     let made = subst (λ (es : List Branch). AreBranches Up v.0 v.1 values c.args.source es) (sym c.deref.ensures.value)
     c.in_ok-find_branches.ensures.branches in
-    branches_within v.0 v.1 values c.args.targets.now c.args.stops.now c.requires.stops c.args.source c.deref.result.now made
-    (length c.args.stops.now) c.requires.count
+    let stops = c.args.stops.now in
+    branches_small v.0 v.1 values c.args.targets.now stops.slots.now.names stops.rows c.requires.stops c.args.source c.deref.result.now made
 
 pub meet_branches-requires-clause-stops : goal.meet_branches-requires-clause-stops
 meet_branches-requires-clause-stops c =
@@ -25,7 +25,8 @@ meet_branches-requires-clause-stops c =
     let made = subst (λ (es : List Branch). AreBranches Up v.0 v.1 values c.args.source es) (sym c.deref.ensures.value)
     c.in_ok-find_branches.ensures.branches in
     let size : length c.in_ok-row.row.items ≡ length targets = ap length c.in_ok-row.ensures ∙ length-replicate (length targets) None in
-    stops_within v.0 v.1 values targets c.args.stops.now c.requires.stops c.args.source c.deref.result.now made
+    let stops = c.args.stops.now in
+    stops_within v.0 v.1 values targets stops.slots.now.names stops.rows c.requires.stops c.args.source c.deref.result.now made
     (length c.as_mut_slice.result.now) (sym (ap length c.as_mut_slice.ensures.value ∙ size))
 
 pub returns-clause-row : goal.returns-clause-row
@@ -45,6 +46,7 @@ returns-clause-row c =
     let none : AreOffers v.0 v.1 values s targets c.as_mut_slice.result.now =
     offers_none v.0 v.1 values targets s c.as_mut_slice.result.now (length targets) (lent ∙ c.in_ok-row.ensures) in
     subst (AreCells v.0 v.1 values s targets) (sym written)
-    (cells_are v.0 v.1 values targets c.args.stops.now c.requires.stops s c.deref.result.now made new (even ∙ size)
+    (cells_are v.0 v.1 values targets c.args.stops.now.slots.now.names c.args.stops.now.rows c.requires.stops s c.deref.result.now made new
+    (even ∙ size)
     (c.meet_branches.ensures.offers v.0 v.1 values targets s (sym (ap length lent ∙ size)) made c.requires.stops none)
     c.meet_branches.ensures.covers)

@@ -1,10 +1,14 @@
--- The pairs are those of the targets before the current one.
-use Rattle.std.proofs.Common.{◌≡◌}
+-- The pairs are those of the targets before the current one, and each has a slot.
+use Rattle.std.proofs.Common.{◌≡◌, ◌<◌, length}
+use Rattle.std.specs.Prelude.{All}
+use Rattle.ch_engine.specs.Slots.{named}
 use Rattle.ch_engine.specs.TableSums.{AreStopPairs}
 use Rattle.ch_engine.proofs.network.Network.find_stops.Given as goal
 
 abbrev pub invariant-loop-c : goal.invariant-loop-c
 invariant-loop-c l = record {
   scratch : l.scratch ≡ l.fn.scratch;
-  pairs : AreStopPairs l.self.0 l.self.1 l.kept.values.items l.targets l.c l.pairs.items;
+  numbers : l.slots.numbers ≡ l.fn.slots.numbers;
+  low : All (λ p. p.0 < length l.slots.names) l.pairs.items;
+  pairs : AreStopPairs l.self.0 l.self.1 l.kept.values.items l.targets l.c (named l.slots.names l.pairs.items);
 }

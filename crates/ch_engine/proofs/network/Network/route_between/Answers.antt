@@ -1,5 +1,5 @@
 -- The route by the hierarchy is the one that is asked for.
-use Rattle.std.proofs.Common.{◌≡◌, subst}
+use Rattle.std.proofs.Common.{subst}
 use Rattle.std.specs.Prelude.{IfOk}
 use Rattle.ch_hierarchy.specs.Hierarchy.{LevelsAndLegs}
 use Rattle.ch_engine.specs.Routes.{IsFound}

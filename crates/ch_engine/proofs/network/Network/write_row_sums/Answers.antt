@@ -1,5 +1,5 @@
 -- One more cell of the row has its weight and its sum, and all else is as before.
-use Rattle.std.proofs.Common.{◌≡◌, ◌+◌, ◌<◌, ℕ, length, slice_index, refl, sym, ◌∙◌, subst, arith}
+use Rattle.std.proofs.Common.{◌+◌, ◌<◌, length, slice_index, ◌∙◌, arith}
 use Rattle.std.proofs.lemmas.List.{get_or-set_other, length-set}
 use Rattle.ch_engine.specs.Held.{only}
 use Rattle.ch_engine.specs.RouteSums.{IsPairSum}

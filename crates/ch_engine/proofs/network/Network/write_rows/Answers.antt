@@ -1,5 +1,5 @@
 -- One more row has its weights and sums behind those before it.
-use Rattle.std.proofs.Common.{◌≡◌, ◌+◌, ◌*◌, ◌<◌, ◌≤◌, ℕ, length, slice_index, refl, sym, subst, ◌∙◌, arith}
+use Rattle.std.proofs.Common.{◌≡◌, ◌+◌, length, slice_index, refl, sym, ◌∙◌, arith}
 use Rattle.std.proofs.Math.Nat.{add-mul, zero-mul}
 use Rattle.ch_flows.proofs.Cells.{row_ends}
 use Rattle.ch_engine.specs.Held.{only}
