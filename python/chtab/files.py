@@ -23,9 +23,9 @@ an open file. A `FileFault` names the file.
 from chtab.errors import FileFault
 from chtab._files.forms import whole
 from chtab._files.graphs import (
-    UNITS, Coordinates, Graph, count_arcs, count_nodes, read_bends, read_coordinates, read_graph,
-    read_turns, read_unit, scale_comment, write_bends, write_coordinate_columns, write_coordinates,
-    write_graph, write_graph_columns)
+    UNITS, Coordinates, Graph, counts_in, read_bends, read_coordinates, read_graph, read_turns,
+    read_unit, scale_comment, write_bends, write_coordinates, write_graph, write_graph_columns,
+    write_point_columns)
 from chtab._files.labelling import Labelling, read_labels, write_labels
 from chtab._files.lists import (
     Place, read_list, read_names, read_places, read_queries, write_list, write_names, write_queries)

@@ -26,9 +26,10 @@ import numpy
 from numpy.typing import ArrayLike, NDArray
 
 from chtab import files
-from chtab._engine import deadlines, making, opening
+from chtab._engine import deadlines, opening
 from chtab._engine.customizing import Customizing
 from chtab._engine.in_process import InProcess
+from chtab._engine.made import Made, made
 from chtab._engine.progress import Asked as Progress
 from chtab._engine.walks import NO_WALK
 from chtab.errors import ChtabError
@@ -52,7 +53,6 @@ if TYPE_CHECKING:
     import networkx
     import pandas
     import scipy.sparse
-    from chtab._engine.folders import Folder
     from chtab._engine.stamps import Stamps
     from chtab._files.arc_columns import Arcs
     from chtab._roads.reach import Isochrones
@@ -73,7 +73,7 @@ def timed(call: Call) -> Call:
     turn share this time."""
     @functools.wraps(call)
     def within_time(self: Network, *given: Any, **named: Any) -> Any:
-        with deadlines.of_call(self._opened.setting.timeout):
+        with deadlines.of_call(self._engine.setting.timeout):
             return call(self, *given, **named)
 
     return cast(Call, within_time)
@@ -108,21 +108,21 @@ class Network:
     the last four networks that it unpickled.
     """
 
-    def __init__(
-        self, opened: opening.Opening, folder: Folder | None = None,
-        known: dict[str, Any] | None = None,
-    ) -> None:
-        if not isinstance(opened, opening.Opening):
+    def __init__(self, files_of: opening.Opening | Made) -> None:
+        if not isinstance(files_of, opening.Opening | Made):
             text = "Network is not called: Network.open(\"roads.gr\") opens files"
             raise TypeError(f"{text}, and Network.from_frame and others make one of arcs")
-        self._opened, self._folder = opened, folder
-        self._layers = layers_of(opened, known)
+        self._files, self._of_arcs = files_of, files_of if isinstance(files_of, Made) else None
+        self._layers = layers_of(files_of)
         self._measure, self._has_turns = self._layers.measure, self._layers.has_turns
-        graph = (known or {}).get("graph")
-        arcs = None if graph is None else (graph.tails, graph.heads, graph.weights)
-        self._engine = InProcess(opened.setting, arcs)
+        self._engine = InProcess(files_of.setting, self._of_arcs)
         self._trips = Trips(self._engine, self._layers)
         self._customizing: Customizing | None = None
+
+    @property
+    def _opened(self) -> opening.Opening:
+        """The opening of the files. Those of arcs in memory are written first."""
+        return self._files.opening() if isinstance(self._files, Made) else self._files
 
     # Networks of files, and of a caller's own arcs.
 
@@ -240,8 +240,8 @@ class Network:
             Whether limits and answers are the whole numbers of the graph, whatever the unit is.
         folder : str or path, optional
             A new or empty folder for the files and the hierarchy, which `Network.open(folder)`
-            opens quickly. By default they are in a temporary folder until `close`, or until the
-            network is no longer used.
+            opens quickly. By default they are written when another process needs them, for pickle
+            or a fork, into a temporary folder that goes with the network.
         like : Network, optional
             A network of the same nodes. The new network takes its order, in about half of the time
             of building by depth. The nodes, labels and places of `like` are taken unless others are
@@ -549,11 +549,11 @@ class Network:
         self._engine.see_that_open()
         with from_arcs.known_to_be_closed(self):
             arcs = scenarios.arcs_of(self._layers, self._measure, weights, closed, added)
-        opened, setting = self._opened, self._opened.setting
+        setting = self._engine.setting
         customizing = self._topology() if added is None else None
         running = opening.Running(
-            setting.program, setting.workers, setting.timeout, True, setting.library, opened.asked,
-            like=self, fresh=fresh,
+            setting.program, setting.workers, setting.timeout, True, setting.library,
+            self._layers.asked, like=self, fresh=fresh,
             customizing=customizing and customizing.with_ends(arcs.tails, arcs.heads))
         return self._made(arcs, folder, running)
 
@@ -592,10 +592,11 @@ class Network:
         with from_arcs.known_to_be_closed(self):
             customizing = self._customized_in(scenarios.order_of(self._layers, order))
             customizing.opened()
-            if self._opened.labelling is not None:
-                path = os.path.join(os.path.dirname(self._opened.setting.graph), making.ORDER)
-                customizing.keep(path)
-                self._opened = dataclasses.replace(self._opened, order=path)
+            if self._of_arcs is not None:
+                self._of_arcs.customize(customizing)
+            elif self._opened.labelling is not None:
+                path = customizing.keep(os.path.dirname(self._opened.setting.graph))
+                self._files = dataclasses.replace(self._opened, order=path)
         self._customizing = customizing
         return self
 
@@ -607,13 +608,14 @@ class Network:
 
     def _topology(self) -> Customizing | None:
         """What customizes weights of the arcs of this network, if it was made customizable."""
-        if self._customizing is None and self._opened.order is not None:
-            self._customizing = self._customized_in(self._opened.order)
+        order = self._opened.order if self._of_arcs is None else None
+        if self._customizing is None and order is not None:
+            self._customizing = self._customized_in(order)
         return self._customizing
 
     @classmethod
     def _made(cls, arcs: Arcs, folder: str | os.PathLike | None, running: opening.Running) -> Self:
-        """Writes the files of these arcs, and opens their network."""
+        """Builds the network of these arcs, and writes its files into a folder if one is named."""
         # Whoever changes a network was warned when it was made.
         if arcs.scale is not None and arcs.unit is None and arcs.beside is None:
             if running.asked == Asked():
@@ -622,17 +624,16 @@ class Network:
             if running.like is not None:
                 from_arcs.see_that_same_nodes(running.like.labels, arcs.labels.values)
                 arcs = from_arcs.with_turns_of(arcs, running.like)
-            opened, kept, handle = opening.made(arcs, folder, running)
+            found, handle = made(arcs, folder, running)
         try:
-            network = cls(opened, kept, making.layers_of(arcs))
+            network = cls(found)
             network._customizing = running.customizing
             if handle is not None:
                 network._engine.begin_with(handle)
             if running.load:
                 network._engine.load()
         except BaseException:
-            if kept is not None:
-                kept.remove()
+            found.close()
             raise
         return network
 
@@ -1548,13 +1549,15 @@ class Network:
     # The network as an object of Python.
 
     def __reduce__(self) -> tuple[Any, ...]:
-        return reopened, (self._opened, self._layers.stamps)
+        opened = self._opened
+        return reopened, (opened, (self._of_arcs or self._layers).stamps)
 
     def __repr__(self) -> str:
-        setting = self._opened.setting
+        setting = self._engine.setting
         saved = "" if setting.saved is None else f" by {setting.saved}"
+        files_of = setting.graph or f"of {len(self.graph.tails):,} arcs"
         closed = ", closed" * self._engine.is_closed
-        return f"<chtab.Network {setting.graph}{saved}: {self.nodes:,} nodes{closed}>"
+        return f"<chtab.Network {files_of}{saved}: {self.nodes:,} nodes{closed}>"
 
     def _repr_html_(self) -> str:
         row = {"nodes": f"{self.nodes:,}", "unit": self.unit or "not known"}
@@ -1564,8 +1567,8 @@ class Network:
         """Closes the network, and removes its temporary folder if it has one. A call that is under
         way in another thread ends with the part that it asks the library for."""
         self._engine.close()
-        if self._folder is not None:
-            self._folder.remove()
+        if self._of_arcs is not None:
+            self._of_arcs.close()
 
     def __enter__(self) -> Self:
         return self

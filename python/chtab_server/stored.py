@@ -108,7 +108,7 @@ def read(path: str, sums: Mapping[str, str]) -> Made:
     coordinates = files.Coordinates(columns["longitudes"], columns["latitudes"], texts["comments"])
     streets = None
     if "streets" in columns:
-        listed = [files.Street(*row) for row in json.loads(columns["streets"].tobytes())]
+        listed = list(map(files.Street._make, json.loads(columns["streets"].tobytes())))
         streets = files.Streets(listed, columns["crossings.street_of_arc"], texts["side"])
     roads = roads_in(texts, columns, coordinates)
     crossings = with_columns(Crossings, "crossings", columns)

@@ -38,11 +38,11 @@ def layers_with(layers: Layers, weights: Integers) -> Layers:
     roads = roads_with(layers.roads, weights)
     with layers.lock:
         kept = {name: value for name, value in layers.kept.items() if name != "graph"}
-    other = Layers(layers.path, asked=layers.asked)
+    other = Layers(layers.files_of)
     other.paths, other.stamps = layers.paths, layers.stamps
     columns = fixed(roads.tails), fixed(roads.heads), fixed(roads.weights)
-    nodes, unit = files.count_nodes(layers.path), files.read_unit(layers.path)
-    other.kept = kept | {"roads": roads, "graph": files.Graph(nodes, *columns, unit)}
+    graph = files.Graph(layers.counts[0], *columns, files.read_unit(layers.path))
+    other.kept = kept | {"roads": roads, "graph": graph}
     return other
 
 

@@ -8,8 +8,8 @@ import json
 import math
 import random
 
+from helpers.commands import needs
 from helpers.maps import COUNTRY, town, town_at_a_cost
-from helpers.marks import needs
 from helpers.running import PROGRAM
 from oracles import dijkstra
 import chtab

@@ -10,21 +10,17 @@ import pickle
 import pytest
 
 from helpers.cases import Case
-from helpers.columns import arcs_of, drawn, forms_of, labels_drawn, least_of
-from helpers.commands import raises
-from helpers.maps import COUNTRY
-from helpers.marks import needs
+from helpers.columns import drawn, forms_of, labels_drawn, least_of
+from helpers.commands import needs, raises
 from helpers.minutes import of_minutes
 from helpers.nearness import dense_owed, rows_owed, rows_told, small_blocks, small_portions, sums_owed
 from helpers.running import PROGRAM, ROOT
 from helpers.science import networkx, numpy, pandas
 from helpers.writing import write_graph
 import chtab
-from chtab import files
 from chtab._near import blocks
 from chtab._near.question import NearQuestion
 
-pytestmark = pytest.mark.usefixtures("program")
 FIRST = ROOT / "examples" / "first.gr"
 # Graphs of each way to make a network, and questions about what is near in each.
 GRAPHS, QUESTIONS = 12, 4
@@ -34,11 +30,8 @@ PORTIONS = (1 << 20, 0, 1 << 13), (1, 10**9, 7), (50, 10**9, 1), (1_000, 30_000,
 AGGREGATES = {"sum": numpy.sum, "mean": numpy.mean, "median": numpy.median, "std": numpy.std, "min": numpy.min, "max": numpy.max, "count": len}
 
 
-# Ways to make a network: each gives the network, the distances between its labels in their order, and its arcs by labels.
-
-
 def arcs_drawn(draw):
-    """Labels, the columns of arcs, the distances, and the arcs by labels."""
+    """Labels, the columns of arcs, the distances, and the arcs by labels. Each way to make a network below gives it with its distances and arcs."""
     count, tails, heads, weights = drawn(draw)
     labels = labels_drawn(draw, count)
     arcs = list(zip(labels[tails].tolist(), labels[heads].tolist(), weights.tolist()))
@@ -144,6 +137,9 @@ def near_as_owed(network, draw, least):
         found, width = network.nearest_targets(*given, count=most or 3, **more), max(1, min(most or 3, len(targets)))
         values, limits = draw.integers(-5, 9, len(targets)), [within or 7, 3]
         sums = network.accessibility(values, limits, sources=given[0], targets=given[1], direction=direction, workers=workers)
+        for block in blocks.cut(NearQuestion(None if sources is None else own, targets, most), count, workers):
+            height, across = block.question.height(count), len(block.question.targets)
+            assert across <= length and height * min(across, most or across) <= pairs, (height, across)
     assert rows_told(near) == owed, (question, rows_told(near), owed)
     assert near.offsets.dtype == near.places.dtype == numpy.int64 and (network.unit or near.weights.dtype == numpy.int64)
     assert near.sources.tolist() == labels[own].tolist() and near.targets.tolist() == labels[targets].tolist()
@@ -171,22 +167,6 @@ def aggregates_as_owed(network, draw, least):
     for kind, wanted in ("sum", shares @ values[:, 0]), ("mean", shares @ values[:, 0] / numpy.where(some, shares.sum(axis=1), 1)):
         found = network.accessibility(values[:, 0], 12, targets=labels[targets], decay="linear", aggregate=kind)
         numpy.testing.assert_allclose(found[some], wanted[some], 1e-9, 1e-9, err_msg=kind)
-
-
-def test_roads_answer_as_scipy():
-    """10,000 pairs of Liechtenstein, and a table, against scipy's own search; and nothing but places near few nodes in portions of each size."""
-    graph, draw = files.read_graph(f"{COUNTRY}.gr"), numpy.random.default_rng(38)
-    sources = draw.integers(1, graph.nodes + 1, 100)
-    pairs = numpy.column_stack([numpy.repeat(sources, 100), draw.integers(1, graph.nodes + 1, 10_000)])
-    wanted = least_of(graph.nodes, arcs_of(graph), sources - 1)
-    with chtab.Network.open(f"{COUNTRY}.gr", program=PROGRAM) as network:
-        assert network.unit == "milliseconds"
-        assert numpy.array_equal(network.distances(pairs), wanted[numpy.repeat(numpy.arange(100), 100), pairs[:, 1] - 1])
-        assert numpy.array_equal(network.table(sources, network.labels), wanted)
-        for portion in PORTIONS:
-            with small_portions(*portion):
-                rows = rows_told(network.near(sources, network.labels[:40], count=3, within=300_000))
-                assert rows == rows_owed(wanted, range(100), range(40), 3, 300_000), portion
 
 
 def test_half_a_million_arcs():
@@ -229,46 +209,37 @@ def test_forms_of_an_answer():
             assert network.accessibility([1.0] * len(targets), [5, 9], sources=sources, targets=targets).tolist() == [[0.0, 0.0]] * len(near)
 
 
-JOBS, LEAST = {"b": 10.0, "c": 2.5}, {"a": (4, 9), "b": (0, 5), "c": (5, 0)}
-
-
-def sums(limit, share=lambda weight, limit: 1):
-    """What is owed to each node for the jobs within a limit, each times its share."""
-    return [sum(value * share(weight, limit) for value, weight in zip(JOBS.values(), LEAST[label]) if weight <= limit) for label in "abc"]
-
-
 def test_sums_take_values_in_each_form():
-    """A value for each target, for all, for each node, and by label; each decay; limits that are numbers and lists."""
-    series = pandas.Series(JOBS)
+    """A value for each target, for all, for each node, and by label; each decay; numbers and lists as limits. Columns of frames keep their names."""
+    jobs, least = {"b": 10.0, "c": 2.5}, {"a": (4, 9), "b": (0, 5), "c": (5, 0)}
+    series = pandas.Series(jobs)
+
+    def sums(limit, share=lambda weight, limit: 1):
+        return [sum(value * share(weight, limit) for value, weight in zip(jobs.values(), least[label]) if weight <= limit) for label in "abc"]
+
     with ring() as network:
         for limit in 0, 4, 5, 9:
-            for values, targets in (JOBS, None), (series, None), ([10, 2.5], ["b", "c"]), (numpy.array([0, 10, 2.5]), None), ([2.5, 4, 6], ["c", "b", "b"]):
+            for values, targets in (jobs, None), (series, None), ([10, 2.5], ["b", "c"]), ([0, 10, 2.5], None), ([2.5, 9, 1], ["c", "b", "b"]):
                 assert network.accessibility(values, limit, targets=targets).tolist() == sums(limit), (limit, values)
             assert network.accessibility(series, limit, sources=["c", "a"]).tolist() == sums(limit)[::-2]
-        found = network.accessibility(JOBS, [0, 4, 5, 9], decay=None)
-        assert found.dtype == float and found.T.tolist() == list(map(sums, (0, 4, 5, 9))) and network.accessibility(JOBS, []).shape == (3, 0)
+        found = network.accessibility(jobs, [0, 4, 5, 9], decay=None)
+        assert found.dtype == float and found.T.tolist() == list(map(sums, (0, 4, 5, 9))) and network.accessibility(jobs, []).shape == (3, 0)
         assert network.accessibility(1, 5).tolist() == [2, 2, 3] and network.accessibility(0.5, 4, targets=["b", "b"]).tolist() == [1, 1, 0]
-        assert network.accessibility(JOBS, 7.5).tolist() == sums(5)
-        assert network.accessibility(JOBS, 7.5, sources=["b"], decay="linear").tolist() == [10 + 2.5 * (1 - 5 / 7.5)]
+        assert network.accessibility(jobs, 7.5).tolist() == sums(5)
+        assert network.accessibility(jobs, 7.5, sources=["b"], decay="linear").tolist() == [10 + 2.5 * (1 - 5 / 7.5)]
         for decay, share in (
             ("linear", lambda weight, limit: 1 - weight / limit), ("exponential", lambda weight, limit: math.exp(-weight / limit)),
             (lambda weights: 1 / (1 + weights), lambda weight, limit: 1 / (1 + weight)), (lambda weights: 0.5, lambda weight, limit: 0.5),
         ):
             owed = numpy.column_stack([sums(limit, share) for limit in (5, 9)])
-            assert numpy.allclose(network.accessibility(JOBS, [5, 9], decay=decay), owed, rtol=1e-12, atol=0), decay
+            assert numpy.allclose(network.accessibility(jobs, [5, 9], decay=decay), owed, rtol=1e-12, atol=0), decay
+    values = pandas.DataFrame({"jobs": [10, 1], "is open": [True, False]}, index=["mill", "farm"])
     with of_minutes() as network:
         # Values of no target, and values that are all 0, are sums of 0 everywhere.
         assert network.accessibility(0, 5).tolist() == [0] * 5 and network.accessibility({}, [1, 2]).tolist() == [[0, 0]] * 5
         assert network.accessibility([], 5, targets=[]).tolist() == [0] * 5
-
-
-def test_frames_of_values_make_frames():
-    """Columns of a frame are aggregated at once, by the labels of its index, and keep their names."""
-    values = pandas.DataFrame({"jobs": [10, 1], "is open": [True, False]}, index=["mill", "farm"])
-    with of_minutes() as network:
-        one = network.accessibility(values, 2.5)
+        one, several = network.accessibility(values, 2.5), network.accessibility(values, [1.25, 2.5], sources=["inn"])
         assert one.loc["inn"].to_dict() == {"jobs": 11.0, "is open": 1.0} and one.index.tolist() == network.labels.tolist()
-        several = network.accessibility(values, [1.25, 2.5], sources=["inn"])
         assert several.loc["inn", ("jobs", 1.25)] == 1 and several.loc["inn", ("is open", 2.5)] == 1 and several.columns.names == [None, "within"]
         assert network.accessibility(values["jobs"], 2.5, sources=["inn"]).tolist() == [11]
         assert network.accessibility({"mill": True}, 2.5, sources=["inn"]).tolist() == [1]
@@ -282,16 +253,15 @@ def test_what_is_no_question_is_refused():
     with ring() as network:
         for kind, words, told in (
             (ValueError, {"count": 0}, "count is a whole number from 1 on"), (ValueError, {"count": -1}, "from 1 on"), (TypeError, {"count": 1.5}, "count is a whole number"),
-            (ValueError, {"count": True}, "True"), (ValueError, {"within": -1}, "from 0 to 2^60"), (ValueError, {"within": 2**60 + 1}, "from 0 to 2^60"),
-            (ValueError, {"within": nan}, "from 0 to 2^60"), (ValueError, {"direction": "back"}, "'back'"), (ValueError, {"workers": 0}, "workers"),
+            (ValueError, {"count": True}, "True"), (ValueError, {"direction": "back"}, "'back'"), (ValueError, {"workers": 0}, "workers"),
         ):
-            raises(kind, lambda: network.near(["a"], ["b"], **words), told=told)
-        raises(ValueError, lambda: network.nearest_targets(["a"], ["b"], count=0), told="count")
+            for call in network.near, network.nearest_targets:
+                raises(kind, lambda: call(["a"], ["b"], **words), told=told)
         raises(TypeError, lambda: network.nearest_targets(["a"], ["b"], count=None))
         for within, more, told in (
-            (5, {"decay": "flat"}, "'flat'"), (0, {"decay": "linear"}, "above 0"), ([5, 0], {"decay": "exponential"}, "above 0"), ([-1], {}, "2^60"), ([[1]], {}, "one list"),
-            (9, {"decay": lambda weights: weights[:1]}, "gave the shape (1,)"), (12, {"decay": "linear", "aggregate": "median"}, "the median has no decay"),
-            (12, {"aggregate": "mode"}, "aggregate is one of sum, mean"),
+            (5, {"decay": "flat"}, "'flat'"), (0, {"decay": "linear"}, "above 0"), ([5, 0], {"decay": "exponential"}, "above 0"),
+            ([[1]], {}, "one list"), (9, {"decay": lambda weights: weights[:1]}, "gave the shape (1,)"),
+            (12, {"decay": "linear", "aggregate": "median"}, "the median has no decay"), (12, {"aggregate": "mode"}, "aggregate is one of sum, mean"),
         ):
             raises(ValueError, lambda: network.accessibility(1, within, **more), told=told)
         for values, more, column, row, told in (
@@ -303,31 +273,11 @@ def test_what_is_no_question_is_refused():
         ):
             fault = raises(chtab.DataFault, lambda: network.accessibility(values, 5, **more), told=told)
             assert (fault.column, fault.row) == (column, row), (fault.column, fault.row, told)
-    raises(chtab.ChtabError, network.near, ["a"], ["b"], told="closed")
-    with chtab.Network.open(FIRST, program=PROGRAM, load=False) as network:
-        raises(ValueError, network.near, [4], [1], told="node 4 is not from 1 to 3")
-        raises(ValueError, network.near, None, [0], told="node 0")
-
-
-@pytest.mark.parametrize("sources, targets, count, nodes, workers", [
-    (200_000, 70_000, None, 10**6, 1), (None, 300, None, 10**6, 1), (None, 500, 3, 10**6, 1), (None, 500, 3, 10**6, 4), (5, 10**6, 1, 10**6, 2),
-    (None, 65_536, None, 10**6, 3), (0, 5, None, 5, 1), (None, 0, None, 5, 1), (1, 1, None, 1, 64),
-])
-def test_blocks_are_within_their_limits(sources, targets, count, nodes, workers):
-    question = NearQuestion(None if sources is None else numpy.ones(sources, numpy.int64), numpy.ones(targets, numpy.int64), count)
-    found, covered = list(blocks.cut(question, nodes, workers)), 0
-    for block in found:
-        height, width = block.question.height(nodes), len(block.question.targets)
-        assert height * min(width, count or width) <= blocks.PAIRS and width <= blocks.LENGTH
-        assert block.question.sources is None or height >= 1
-        covered += height * width
-    assert covered == (nodes if sources is None else sources) * targets
-    assert (len(found) == 1 and found[0].question.sources is None) == (sources is None and workers == 1 and targets == 500)
 
 
 @needs("python3-distributed")
 def test_a_cluster_answers_too():
-    """The workers of a client of Dask make blocks; a fault of one of them is told, and the client goes on."""
+    """The workers of a client of Dask make blocks; a fault of one of them is reported, and the client goes on."""
     import distributed
 
     def shares(weights):

@@ -9,26 +9,16 @@ import os
 import pathlib
 import pickle
 import shutil
-import subprocess
-import sys
-
-import pytest
 
 from helpers.columns import refusals
-from helpers.commands import raises, temporary
+from helpers.commands import needs, raises, temporary
 from helpers.in_process import make
 from helpers.maps import COUNTRY
-from helpers.marks import needs
-from helpers.packages import PYTHON
-from helpers.running import PROGRAM, ROOT
+from helpers.running import PROGRAM
 from helpers.science import networkx, numpy, pandas
-from helpers.waiting import PATIENCE
 import chtab
 from chtab import files
 
-pytestmark = pytest.mark.usefixtures("program")
-# How much the count of lines that run may grow from 5,000 arcs to 200,000.
-MORE_LINES = 2_000
 # The arcs of most checks, and their labels: a ring with a way across.
 RING = ["a", "b", "c", "a"], ["b", "c", "a", "c"], [4, 5, 1, 10]
 
@@ -46,21 +36,23 @@ def test_labels_come_from_the_ends():
     with of_arrays([30, 10], [-20, 30], [1, 2]) as network:
         assert network.labels.tolist() == [-20, 10, 30] and network.distances([(10, -20)]).tolist() == [3]
         assert network.frame([10, 30], [-20]).loc[10, -20] == 3
+    for names in ["", "a", "a\0", "a\0b", "a\0c", "b"], ["a", "\udc80", "\udc81"], ["10", "2", "A", "a"], ["e", "\u00e9", "\u4e2d"]:
+        with of_arrays(names[::-1][:-1], names[::-1][1:], [1] * (len(names) - 1)) as network:
+            assert network.labels.tolist() == sorted(names) and network.distances([(names[-1], names[0])]).tolist() == [len(names) - 1]
     given = numpy.array(["a", "b", "c"], object)
-    with of_arrays() as network, of_arrays(nodes=given) as other:
+    with of_arrays() as network, of_arrays(nodes=given, both_ways=True) as other:
         given[:] = "c", "a", "b"
-        assert network.labels.tolist() == ["a", "b", "c"] == other.labels.tolist() and other.distances([("a", "c")]).tolist() == [9]
+        assert network.labels.tolist() == ["a", "b", "c"] == other.labels.tolist() and other.table(["a", "b"], "c").tolist() == [[1], [5]]
         raises(ValueError, other.labels.__setitem__, 0, "x", told="read-only")
         routes = network.routes([("a", "c"), ("b", "c")])
         assert routes[0].nodes == routes.to_frame()["nodes"][0] == ["a", "b", "c"] and [each.source for each in routes[:]] == ["a", "b"]
-        assert network.table("a", ["c", "b"]).tolist() == [[9, 4]]
-    with of_arrays(both_ways=True) as network:
-        assert network.distances([("c", "a"), ("b", "a"), ("a", "c")]).tolist() == [1, 4, 1] and len(network.graph.tails) == 8
+        assert network.table("a", ["c", "b"]).tolist() == [[9, 4]] and len(other.graph.tails) == 8
     with of_arrays([], [], [], nodes=["alone", "too"]) as network:
         assert network.table(["alone", "too"], ["alone", "too"]).tolist() == [[0, -1], [-1, 0]]
 
 
 def test_what_is_no_label_is_refused():
+    """Its column and its row are named."""
     with of_arrays() as network, of_arrays([1, 2], [2, 3], [1, 1]) as other:
         for call, words, column, row, told in (
             (network.distances, [[("a", "x")]], "pairs", 0, "pairs[0]: no node has the label 'x'"), (network.distances, [[("a", None)]], "pairs", 0, "None is no label"),
@@ -71,7 +63,6 @@ def test_what_is_no_label_is_refused():
         ):
             fault = raises(chtab.DataFault, call, *words, told=told)
             assert (fault.column, fault.row) == (column, row), fault
-        raises(ValueError, other.distances, [1, 2], [2], told="2 sources and 1 targets")
 
 
 def test_rounding_is_told():
@@ -112,7 +103,6 @@ def test_faults_of_the_program_leave_nothing():
             assert raises(chtab.ProgramFault, lambda: chtab.Network.from_arrays(*RING, **fails), told="out of memory").status == 3
             raises(chtab.ChtabError, lambda: chtab.Network.from_arrays(*RING, program="./none", **more), told="can't be run")
             raises(TypeError, lambda: of_arrays(wieght=1, **more), told="wieght")
-            raises(ValueError, lambda: of_arrays(workers=0, **more), told="from 1 to 64")
         raises(FileExistsError, lambda: of_arrays(folder="fails/own"))
         assert os.listdir() == ["fails"] and left() == []
 
@@ -138,18 +128,13 @@ def test_a_folder_is_opened_again():
     with chtab.Network.open("own", saved="own/network.ch", bends="own.bends", program=PROGRAM) as network:
         assert network.routes([("a", "b")]).to_geojson()["features"][0]["geometry"]["coordinates"] == [(9.5, 47.0), (9.55, 47.2), (9.6, 47.1)]
     raises(FileNotFoundError, lambda: chtab.Network.open("own", saved="none.ch", program=PROGRAM), told="none.ch")
-    os.mkdir("empty")
-    with of_arrays(folder="empty"):
-        assert sorted(os.listdir("empty")) == ["network.ch", "network.gr", "network.json"]
-
-
-def test_a_folder_that_is_made_anew_is_another_network():
-    """Where a network of one folder was unpickled before, one that was made there later is not taken for it."""
+    # Where a network of one folder was unpickled before, one that was made there later is not taken for it.
     for arcs, weight in (RING, 9), ((["a"], ["c"], [2]), 2):
-        of_arrays(*arcs, folder="own").close()
-        again = pickle.loads(pickle.dumps(chtab.Network.open("own", program=PROGRAM)))
-        assert again.distances([("a", "c")]).tolist() == [weight]
         shutil.rmtree("own")
+        os.mkdir("own")
+        of_arrays(*arcs, folder="own").close()
+        assert sorted(os.listdir("own")) == ["network.ch", "network.gr", "network.json"]
+        assert pickle.loads(pickle.dumps(chtab.Network.open("own", program=PROGRAM))).distances([("a", "c")]).tolist() == [weight]
 
 
 def test_labels_of_another_graph_are_refused():
@@ -170,60 +155,23 @@ def test_labels_of_another_graph_are_refused():
 
 
 def test_temporary_files_go_with_the_network():
-    """They are gone once it is closed, dropped, or the interpreter ends; a process that was forked leaves them alone."""
-    with temporary() as left:
-        with of_arrays() as network:
-            assert len(left()) == 1
-        assert left() == [] and network.labels.tolist() == ["a", "b", "c"]
-        network = of_arrays()
-        routes = network.routes([("a", "c")])
-        del network
-        gc.collect()
-        assert left() == [] and routes[0].nodes == ["a", "b", "c"]
-    text = """if True:
-        import os, sys
-        sys.path.insert(0, sys.argv[1])
-        import chtab
-        network = chtab.Network.from_arrays(['a'], ['b'], [4], program=sys.argv[2])
-        child = os.fork()
-        if not child:
-            network.close() if len(sys.argv) > 3 else None
-            sys.exit(0)
-        os.waitpid(child, 0); print(network.routes([('a', 'b')])[0].weight)
-    """
-    for more in [], ["close"]:
+    """They are gone once it is closed or dropped, and what it answered stays."""
+    for is_closed in True, False:
         with temporary() as left:
-            done = subprocess.run([PYTHON, "-c", text, ROOT / "python", PROGRAM, *more], capture_output=True, text=True, timeout=PATIENCE)
-            assert (done.stdout, done.stderr, left()) == ("4\n", "", []), done
-
-
-def lines_that_run(arcs, kind):
-    """How many lines of Python run while a network's arcs are made and written, for a program that builds nothing."""
-    draw, count = numpy.random.default_rng(1), [0]
-    tails, heads = draw.integers(0, 1_000, (2, arcs))
-    columns = (tails.astype(str), heads.astype(str)) if kind == "strings" else (tails, heads)
-    weights = draw.integers(0, 1_000, arcs) if kind == "lists of integers" else draw.random(arcs)
-    if kind.startswith("lists"):
-        columns, weights = [column.tolist() for column in columns], weights.tolist()
-
-    def trace(frame, event, argument):
-        count[0] += event == "line" and "chtab" in frame.f_code.co_filename
-        return trace
-
-    before = sys.gettrace()
-    sys.settrace(trace)
-    try:
-        raises(chtab.ChtabError, lambda: chtab.Network.from_arrays(*columns, weights, scale=1000, workers=2, program="/bin/true", library=make()))
-    finally:
-        sys.settrace(before)
-    return count[0]
-
-
-@pytest.mark.parametrize("kind", ["integers", "strings", "lists", "lists of integers"])
-def test_no_line_runs_for_each_arc(kind):
-    """Whatever is done with each arc is done by numpy, or by a call of Python that is no line of its own."""
-    few, many = lines_that_run(5_000, kind), lines_that_run(200_000, kind)
-    assert 100 < few and many < few + MORE_LINES, (few, many)
+            network = of_arrays()
+            routes, labels = network.routes([("a", "c")]), network.labels
+            assert left() == [] and pickle.dumps(network) and len(left()) == 1
+            network.close() if is_closed else None
+            del network
+            gc.collect()
+            assert left() == [] and routes[0].nodes == ["a", "b", "c"] == labels.tolist()
+            network = of_arrays()
+            routes = network.routes([("a", "c")])
+            network.close() if is_closed else None
+            del network
+            gc.collect()
+            raises(chtab.ChtabError, pickle.dumps, routes, told="the network is closed")
+            assert left() == []
 
 
 def test_frames():
@@ -241,31 +189,27 @@ def test_frames():
 
 
 def test_what_a_graph_lacks_is_named():
-    graph = networkx.path_graph(3, networkx.DiGraph)
-
-    def refused(told, *words, of=graph):
+    """The attribute and its row, with the edge or the node."""
+    def refused(told, *words, of):
         return raises(chtab.DataFault, chtab.Network.from_networkx, of, *words, told=told)
 
-    assert refused("travel_time[0]: there is none, of the edge from 0 to 1").row == 0
+    graph = networkx.path_graph(3, networkx.DiGraph)
+    assert refused("travel_time[0]: there is none, of the edge from 0 to 1", of=graph).row == 0
     networkx.set_edge_attributes(graph, 1.5, "travel_time")
     graph.add_edge(2, 0, travel_time="soon")
-    refused("travel_time[2]: 'soon' is neither an integer nor a float, of the edge from 2 to 0")
+    refused("travel_time[2]: 'soon' is neither an integer nor a float, of the edge from 2 to 0", of=graph)
     graph.edges[2, 0]["travel_time"] = 2
-    refused("1.5 is not a whole number", "travel_time", None)
+    refused("1.5 is not a whole number", "travel_time", None, of=graph)
     graph.nodes[1]["x"] = 5.0
-    refused("x[0]: there is none, of node 0")
+    refused("x[0]: there is none, of node 0", of=graph)
     networkx.set_node_attributes(graph, {0: 538_000.0, 1: 5.0, 2: 6.0}, "x")
     networkx.set_node_attributes(graph, 5.0, "y")
-    refused("x[0]: 538000 is not from -180 to 180 degrees, of node 0")
+    refused("x[0]: 538000 is not from -180 to 180 degrees, of node 0", of=graph)
     with chtab.Network.from_networkx(graph, x=None, program=PROGRAM) as network:
         assert network.distances([(0, 2)]).tolist() == [3_000]
+    refused("of epsg:32632: `osmnx.project_graph", of=networkx.MultiDiGraph(graph, crs="epsg:32632"))
     refused("(0, 0)", of=networkx.grid_graph((2, 2)))
     refused("there is no node", of=networkx.Graph())
-    graph = networkx.MultiDiGraph([(1, 2)], crs="epsg:32632")
-    networkx.set_node_attributes(graph, {1: 538_000.0, 2: 538_100.0}, "x")
-    networkx.set_node_attributes(graph, 5_220_000.0, "y")
-    networkx.set_edge_attributes(graph, 100.0, "length")
-    refused("of epsg:32632: `osmnx.project_graph", "length", of=graph)
 
 
 @needs("python3-osmnx", "python3-sklearn")

@@ -1,6 +1,7 @@
 """Tests calls that a careless reader of the pages makes: each is answered as it is meant, or refused with what to do instead; none is wrong in
 silence.
 """
+import itertools
 import os
 import pathlib
 import pickle
@@ -11,16 +12,15 @@ import time
 
 import pytest
 
-from helpers.commands import raises, temporary
+from helpers.commands import needs, raises, temporary
 from helpers.maps import COUNTRY, ROAD, osm
-from helpers.marks import needs
 from helpers.packages import PYTHON
 from helpers.running import PROGRAM, ROOT
 from helpers.waiting import until
 import chtab
 from chtab import files
 
-pytestmark = [needs("python3-numpy", "python3-scipy", "python3-pandas"), pytest.mark.usefixtures("program")]
+pytestmark = needs("python3-numpy", "python3-scipy", "python3-pandas")
 GRAPH, FIRST = f"{COUNTRY}.gr", ROOT / "examples" / "first.gr"
 VADUZ, SCHAAN, RUGGELL, MALBUN = (9.5209, 47.1410), (9.5101, 47.1558), (9.5280, 47.2390), (9.6079, 47.1020)
 # Roads with a weight, a climb, and whether they lead both ways.
@@ -132,6 +132,8 @@ def test_columns_of_pandas_go_by_their_index():
         for call in (
             lambda: network.distances(frame.node, other.node), lambda: network.routes(frame.node, other.node), lambda: network.snap(frame.x, other.y),
             lambda: network.nearest_nodes(frame.x, other.y), lambda: network.accessibility(frame.jobs, 1, targets=other.node),
+            lambda: chtab.Network.from_arrays(frame.node, other.node, frame.jobs),
+            lambda: chtab.Network.from_arrays(frame.node, frame.node, other.jobs),
         ):
             raises(chtab.DataFault, call, told="`to_numpy()`")
     places = pandas.DataFrame({"x": [9.5, 9.6, 9.7], "y": [47.0, 47.1, 47.2]}, index=["x", "y", "z"])
@@ -313,6 +315,9 @@ def test_places_are_degrees():
     with of_country() as network:
         far = raises(chtab.TooFar, network.nearest_nodes, *reversed(VADUZ), told="longitude comes first")
         assert far.places[0] > 5e6 and network.nearest_nodes(*reversed(VADUZ), max_metres=None)[1][0] == far.places[0]
+        for call, what in (network.nearest_nodes, "node"), (network.snap, "road"):
+            fault = raises(chtab.TooFar, call, *zip(VADUZ, VADUZ[::-1], MALBUN, VADUZ[::-1]), told=f"is 5,467 km from the nearest {what}")
+            assert list(fault.places) == [1, 3] and fault.places[3] > 5_000_000
         masked = numpy.ma.array([9.52, -99.0], mask=[0, 1])
         for call in network.nearest_nodes, network.snap:
             raises(chtab.DataFault, call, masked, [47.14, -9.0], told="longitudes[1]: the value is masked")
@@ -433,14 +438,14 @@ def test_a_count_past_the_targets_takes_no_memory():
 
 
 def test_a_killed_process_leaves_no_building_behind():
-    """Neither the program nor its folder, however the process ends."""
+    """Neither the program nor its folder, a temporary one or the caller's, however the process ends."""
     text = """if True:
         import sys, numpy
         sys.path.insert(0, sys.argv[1])
         import chtab
         at = numpy.arange(160_000).reshape(400, 400)
         ends = [numpy.concatenate([at[:, :-1].ravel(), at[:-1].ravel()]), numpy.concatenate([at[:, 1:].ravel(), at[1:].ravel()])]
-        chtab.Network.from_arrays(*ends, numpy.ones(len(ends[0]), int), both_ways=True, program=sys.argv[2], workers=2)
+        chtab.Network.from_arrays(*ends, numpy.ones(len(ends[0]), int), both_ways=True, program=sys.argv[2], folder=sys.argv[3] or None, workers=2)
     """
 
     def building():
@@ -455,9 +460,10 @@ def test_a_killed_process_leaves_no_building_behind():
                 found.append(name)
         return found
 
-    for number in signal.SIGTERM, signal.SIGKILL:
+    for number, name in itertools.product((signal.SIGTERM, signal.SIGKILL), ("", "own")):
         with temporary() as left:
-            with subprocess.Popen([PYTHON, "-c", text, ROOT / "python", PROGRAM]) as process:
+            folder = name and os.path.join(os.environ["TMPDIR"], name)
+            with subprocess.Popen([PYTHON, "-c", text, ROOT / "python", PROGRAM, folder]) as process:
                 until(building)
                 time.sleep(0.1)
                 process.send_signal(number)

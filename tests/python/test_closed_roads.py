@@ -5,7 +5,6 @@ import pytest
 
 from helpers.columns import least_of
 from helpers.commands import raises
-from helpers.marks import needs
 from helpers.running import PROGRAM
 from helpers.scenarios import after, by_nodes, each_way, grid_map, trips_between, trips_of, with_turns  # noqa: F401
 from helpers.science import networkx, numpy
@@ -13,7 +12,7 @@ from oracles import dijkstra
 import chtab
 from chtab_server.osrm.nearby import find_facing
 
-pytestmark = pytest.mark.usefixtures("program", "each_way")
+pytestmark = pytest.mark.usefixtures("each_way")
 
 
 def ladder(seed):
@@ -83,9 +82,8 @@ def test_spots_of_another_scenario_close_their_own_roads():
             fault = raises(chtab.DataFault, other.changed, None, [5, kept], told="lies on no road of this network")
             assert fault.row == 1 and "closed[1]" in str(fault)
         assert after(network, [(2, 3)], closed=network.snap(*on_line(lines[6]))) == [min(weight for _, _, weight in arcs[7:9])]
-    with chtab.Network.from_arrays([0], [1], [5], **by_nodes(2)) as network:
-        assert [len(spots) for spots in network.snap([9.5, 9.51], [47.1, 47.1])] == [1, 1] and len(network.snap([9.5, 9.51], [47.1, 47.1])[-1]) == 1
-        raises(IndexError, lambda: network.snap(9.5, 47.1)[1])
+        assert [len(each) for each in spots] == [1, 1, 1] and len(spots[-1]) == 1
+        raises(IndexError, lambda: spots[3])
 
 
 def test_ways_of_maps_are_closed():
@@ -120,7 +118,7 @@ def test_ways_of_maps_are_closed():
                     assert other.table(every, every).tolist() == without(is_closed), (pair, closed)
         with network.changed({"way/1": 7}, ["way/2"], [(node[13], node[16], 3)], folder="own") as other, other.changed(closed=["way/3"]) as again:
             arcs = [(*arc[:2], 7 if set(ends(arc)) == {1, 2} else arc[2]) for arc in arcs] + [(node[13], node[16], 3)]
-            assert other.table(every, every).tolist() == without(lambda *ends: set(ends) == {2, 3})
+            assert other.table(every, every).tolist() == without(lambda *ends: set(ends) == {2, 3}) and other.unit == network.unit == "milliseconds"
             assert again.table(every, every).tolist() == without(lambda *ends: set(ends) in ({2, 3}, {3, 4}))
             raises(chtab.DataFault, again.changed, None, ["way/2"], told="closed[0]: no arc is a part of way 2 of OpenStreetMap")
             # Added arcs, and those with which trips end, are parts of no way.
@@ -163,9 +161,10 @@ def test_roads_are_added_where_turns_are_restricted():
 def test_ways_of_osmnx_are_closed():
     """Edges of a graph have the numbers of their ways, one or several each; those that lack one have none."""
     graph = networkx.MultiDiGraph()
-    for tail, head, length, osmid in ((1, 2, 5, 70), (1, 2, 7, [70, 71]), (1, 2, 11, 72), (2, 3, 1, [72, 71]), (3, 1, 2, 73)):
+    for tail, head, length, osmid in (1, 2, 5, 70), (1, 2, 7, [70, 71]), (1, 2, 11, 72), (2, 3, 1, [72, 71]), (3, 1, 2, 73):
         graph.add_edge(tail, head, length=length, osmid=osmid)
-    with chtab.Network.from_networkx(graph, "length", unit="metres", folder="own", program=PROGRAM) as network:
+    more = {"unit": "metres", "program": PROGRAM}
+    with chtab.Network.from_networkx(graph, "length", folder="own", **more) as network:
         for way, apart in {70: [11, 1], 71: [5, -1], 72: [5, -1], 73: [5, 1]}.items():
             assert after(network, [(1, 2), (2, 3)], closed=[f"way/{way}"]) == apart, way
         raises(chtab.DataFault, network.changed, None, ["way/7"], told="no arc is a part of way 7")
@@ -173,18 +172,5 @@ def test_ways_of_osmnx_are_closed():
         assert other.distances([(1, 2), (2, 3), (3, 1), (2, 1)]).tolist() == [11, 1, 4, 3]
         assert after(other, [(1, 2), (2, 3), (2, 1)], closed=["way/71"]) == [11, -1, 3]
     graph.add_edge(3, 2, length=1)
-    with chtab.Network.from_networkx(graph, "length", unit="metres", program=PROGRAM) as network:
+    with chtab.Network.from_networkx(graph, "length", **more) as network:
         raises(chtab.DataFault, network.changed, None, ["way/70"], told="nothing says which arcs are parts of way 70")
-
-
-@needs("python3-geopandas")
-def test_ways_of_geodataframes_are_closed():
-    """A column `osmid` of a GeoDataFrame has the numbers of ways, with both directions of a row."""
-    import geopandas
-    from shapely.geometry import LineString
-
-    lines = [LineString([(9.50, 47.10), (9.52, 47.10)]), LineString([(9.50, 47.10), (9.51, 47.12), (9.52, 47.10)])]
-    edges = geopandas.GeoDataFrame({"minutes": [4.0, 9.0], "osmid": [11, [12, 13]]}, geometry=lines, crs="EPSG:4326")
-    with chtab.Network.from_geodataframe(edges, weight="minutes", unit="minutes", both_ways=True, program=PROGRAM) as network:
-        for way, apart in (11, [9, 9]), (12, [4, 4]), (13, [4, 4]):
-            assert after(network, [(1, 2), (2, 1)], closed=[f"way/{way}"]) == apart, way

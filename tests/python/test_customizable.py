@@ -6,14 +6,13 @@ import pickle
 import pytest
 
 from helpers.columns import least_of
-from helpers.commands import raises, temporary
-from helpers.marks import needs
+from helpers.commands import needs, raises, temporary
 from helpers.running import PROGRAM, ROOT
 from helpers.scenarios import of_roads
 import chtab
 from chtab._engine import library as calls
 
-pytestmark = [needs("python3-numpy"), pytest.mark.usefixtures("program")]
+pytestmark = needs("python3-numpy")
 
 
 @pytest.fixture

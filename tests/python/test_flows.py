@@ -3,14 +3,13 @@ from functools import partial
 
 import pytest
 
-from helpers.commands import raises
-from helpers.marks import needs
+from helpers.commands import needs, raises
 from helpers.nearness import rows_told
 from helpers.running import PROGRAM
 import chtab
 from chtab._engine import in_process, library
 
-pytestmark = [needs("python3-numpy", "python3-pandas"), pytest.mark.usefixtures("program")]
+pytestmark = needs("python3-numpy", "python3-pandas")
 
 # Braess's network (Dietrich Braess, "Über ein Paradoxon aus der Verkehrsplanung", 1968): the time of each road is a + b * flow, and 6 cars go from s to t.
 BRAESS = [("s", "v", 0, 10), ("s", "w", 50, 1), ("v", "t", 50, 1), ("w", "t", 0, 10), ("v", "w", 10, 1)]
@@ -167,8 +166,9 @@ def test_large_tables_keep_their_targets(monkeypatch, workers, timeout, side, wi
                 kept.clear()
                 found = [network.table(sources, targets, within=within) for within in (None, 7)]
             assert all((one == other).all() for one, other in zip(found, owed)), seed
-            if workers == 1 and max(len(sources), len(targets)) > side:
-                assert sum(kept) <= 2 * len(targets) * bool(len(sources)) and (kept or not owed[0].size), (seed, kept)
+            if workers == 1:
+                keeps = len(sources) > side and len(targets) > 0
+                assert bool(sum(kept)) == keeps and sum(kept) <= 2 * len(targets), (seed, kept)
             assert rows_told(network.near(sources, [0, 1], count=1)) == rows_told(near), seed
 
 

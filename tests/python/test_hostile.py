@@ -8,18 +8,20 @@ import fractions
 import itertools
 import os
 import pathlib
+import pickle
 import resource
 import signal
 import subprocess
+import tempfile
 import threading
 import time
 import types
 
 import pytest
 
-from helpers.commands import raises, temporary
+from helpers.commands import raises, run, temporary
 from helpers.forking import forked
-from helpers.handles import FIRST, handle_of, of_country, of_first, route
+from helpers.handles import FIRST, of_country
 from helpers.in_process import make
 from helpers.minutes import of_minutes
 from helpers.nearness import rows_told, small_blocks, small_portions
@@ -31,30 +33,23 @@ import chtab
 from chtab import files
 from chtab._engine import deadlines, in_process, library
 
-pytestmark = pytest.mark.usefixtures("program")
 IMPORT = "import os, sys, time; sys.path.insert(0, sys.argv[1]); import chtab\n"
 
 
 @contextlib.contextmanager
-def alarm(handler, seconds=None, when=None):
-    """Has a signal handled by the main thread in so many seconds, or once a call gives what is true."""
+def alarm(handler, when):
+    """Has a signal handled by the main thread once a call gives what is true."""
     def send():
         until(when)
         signal.pthread_kill(threading.main_thread().ident, signal.SIGALRM)
 
-    before, sender = signal.signal(signal.SIGALRM, handler), threading.Thread(target=send if when else time.sleep, args=() if when else (0,))
+    before, sender = signal.signal(signal.SIGALRM, handler), threading.Thread(target=send)
     sender.start()
-    signal.setitimer(signal.ITIMER_REAL, seconds or 0)
     try:
         yield
     finally:
         sender.join()
-        signal.setitimer(signal.ITIMER_REAL, 0)
         signal.signal(signal.SIGALRM, before)
-
-
-def interrupt(number, frame):
-    raise KeyboardInterrupt
 
 
 def test_nodes_are_whole_numbers():
@@ -75,7 +70,6 @@ def test_nodes_are_whole_numbers():
         read_only = numpy.array([1, 3])
         read_only.flags.writeable = False
         assert network.distances(read_only, read_only[::-1]).tolist() == [9, -1] and network.table(numpy.array(1), numpy.array(3)).tolist() == [[9]]
-        raises(ValueError, network.distances, [1, 2], [3], told="2 sources and 1 targets")
         for pairs in numpy.array(1), [1, 2, 3]:
             raises(ValueError, network.distances, pairs, told="shape (n, 2)")
 
@@ -107,8 +101,6 @@ def test_what_is_out_of_size_is_taken_or_refused():
             with small_blocks(length, 10):
                 near = network.near(None, ["c", "b", "c"], count=count)
                 assert rows_told(near) == rows_told(network.near(None, ["c", "b", "c"])) and near.offsets.dtype == numpy.int64, (count, length)
-        for count in 2**50, 1:
-            assert network.nearest_targets(["a"], ["b"], count=count).weights.tolist() == [[4]]
         for masked in numpy.ma.masked, numpy.ma.array(5, mask=True), None, "5", 5j, float("nan"), numpy.float64("inf"):
             for targets in (None, ["b"]):
                 raises(chtab.DataFault, lambda: network.accessibility(masked, 5, targets=targets), told="values")
@@ -134,26 +126,36 @@ def test_labels_are_of_any_size():
         raises(chtab.DataFault, lambda: chtab.Network.from_arrays([1], [2], weights, program=PROGRAM), told="too large")
 
 
-@pytest.mark.parametrize("change", ["a 1 2 5\n", "a 1 2 4 \n"])
-def test_a_graph_that_was_changed_is_not_asked_on(change):
-    """A graph that was written anew is refused by whatever would read it later: a process that is forked, and what stands beside the answers. What
-    was read of the one before answers on."""
-    pathlib.Path("own.gr").write_text(FIRST.read_text())
-    with chtab.Network.open("own.gr", program=PROGRAM) as network:
-        assert network.distances([(1, 3)]).tolist() == [9]
+@pytest.mark.parametrize("old, new", [("4\na 2 3 5", "5\na 2 3 4"), ("a 2 3 5", "a 3 2 5"), ("a 2 3 5\n", ""), ("a 1 2 4\n", "a 1 2 4 \n")])
+def test_files_that_were_written_anew_are_not_read(old, new):
+    """A graph that was written anew is refused by whatever would read it later: a process that is forked, routes, their lines, and changes; so are
+    places. What was read of the one before answers on."""
+    text, told = FIRST.read_text(), "own.gr has changed since it was opened"
+    pathlib.Path("own.gr").write_text(text)
+    files.write_coordinates("own.co", [(9.5, 47.1)] * 3)
+    with chtab.Network.open("own.gr", program=PROGRAM) as network, chtab.Network.open("own.gr", program=PROGRAM) as known:
+        routes = known.routes([(1, 3)])
+        assert routes[0] == (1, 3, 9, [1, 2, 3], [4, 5])
         time.sleep(0.02)
-        pathlib.Path("own.gr").write_text(FIRST.read_text().replace("a 1 2 4\n", change))
-        told = "own.gr has changed since it was opened"
+        pathlib.Path("own.gr").write_text(text.replace(old, new))
+        for call in lambda: network.routes([(1, 3)]), lambda: network.graph, lambda: network.changed({0: 3}), routes.to_geojson:
+            raises(chtab.ProgramFault, call, told=told)
         assert forked(lambda: all(raises(chtab.ProgramFault, call, [1], [3], told=told) for call in (network.distances, network.routes, network.near)))
         assert network.distances([(1, 3)]).tolist() == [9] == network.table([1], [3])[0].tolist()
-        raises(chtab.ProgramFault, lambda: network.graph, told="has changed")
-    with chtab.Network.open("own.gr", program=PROGRAM, load=False) as network:
-        network.graph
-        pathlib.Path("own.gr").write_text(FIRST.read_text())
-        raises(chtab.ProgramFault, network.distances, [(1, 3)], told="has changed")
+        assert known.routes([(1, 3), (2, 3)])[:] == [(1, 3, 9, [1, 2, 3], [4, 5]), (2, 3, 5, [2, 3], [5])]
+    with chtab.Network.open("own.gr", program=PROGRAM, load=False) as network, temporary() as left:
+        assert network.graph.nodes == 3
+        time.sleep(0.02)
+        files.write_coordinates("own.co", [(9.7, 47.1)] * 3)
+        raises(chtab.ProgramFault, network.changed, {0: 3}, told="own.co has changed since it was opened")
+        pathlib.Path("own.gr").write_text(text)
+        raises(chtab.ProgramFault, network.distances, [(1, 3)], told=told)
+        assert left() == []
 
 
-@pytest.mark.parametrize("program, most, name, cause", [("chtab", 10_000, "network.gr", "File too large"), ("full", 10**9, "network.ch", "cannot write after 0 bytes")])
+@pytest.mark.parametrize("program, most, name, cause", [
+    (PROGRAM, 10_000, "network.gr", "File too large"), ("./full", 10**9, "network.ch", "cannot write after 0 bytes"),
+])
 def test_a_file_that_cannot_be_written_is_named(program, most, name, cause):
     """Files that may not be so long, as on a full disk, are faults that name the file and the cause; then nothing is left."""
     text = f"""{IMPORT}if True:
@@ -167,76 +169,57 @@ def test_a_file_that_cannot_be_written_is_named(program, most, name, cause):
     """
     pathlib.Path("full").write_text(f"#!/bin/sh\n[ \"$1\" = save ] && exec {PROGRAM} \"$@\" >/dev/full\nexec {PROGRAM} \"$@\"\n")
     os.chmod("full", 0o755)
-    words = [ROOT / "python", PROGRAM if program == "chtab" else os.path.abspath("full"), str(most), make()]
     with temporary() as left:
-        done = subprocess.run([PYTHON, "-c", text, *words], capture_output=True, text=True)
-        assert name in done.stdout and cause in done.stdout and done.stdout.count("\n") == 1, done
-        assert left() == []
+        told = run(PYTHON, "-c", text, ROOT / "python", program, most, make())
+        assert name in told and cause in told and told.count("\n") == 1 and left() == [], told
 
 
+def test_a_lack_of_room_is_told_where_a_file_is_needed():
+    """On a full disk, and where no folder can be made, arcs are a network, which answers and is changed. Pickle names the file, and leaves nothing; a
+    process that is forked answers too. Once there is room the files are written."""
+    ends = list(range(2_000)), list(range(1, 2_001))
+
+    def is_told():
+        signal.signal(signal.SIGXFSZ, signal.SIG_IGN)
+        before, folder = resource.getrlimit(resource.RLIMIT_FSIZE), tempfile.tempdir
+        for limit, place, name in (10_000, folder, "network.gr"), (before[0], f"{folder}/none", "none/chtab-"):
+            resource.setrlimit(resource.RLIMIT_FSIZE, (limit, before[1]))
+            tempfile.tempdir = place
+            with chtab.Network.from_arrays(*ends, [5] * 2_000, program=PROGRAM) as base, base.changed({0: 7}) as network:
+                for _ in range(2):
+                    assert network.distances([(0, 2_000)]).tolist() == [10_002] and raises(OSError, pickle.dumps, network, told=name) and left() == []
+                    assert forked(lambda: network.distances([(0, 2_000)]).tolist() == [10_002] and raises(OSError, pickle.dumps, network, told=name))
+                resource.setrlimit(resource.RLIMIT_FSIZE, before)
+                tempfile.tempdir = folder
+                assert pickle.loads(pickle.dumps(network)).distances([(0, 2_000)]).tolist() == [10_002] and len(left()) == 1
+        return left() == []
+
+    with temporary() as left:
+        assert forked(is_told)
+
+
+@pytest.mark.parametrize("more", ["pickle.dumps(network); child = 0", "child = os.fork()\nif not child:\n    sys.stdin.read(); os._exit(0)"])
 @pytest.mark.parametrize("number", [signal.SIGTERM, signal.SIGKILL])
-def test_a_signal_leaves_no_folder(number):
-    """A process that is ended leaves no temporary folder, also where processes that were forked from it live on; nor a part of a folder that it builds."""
-    text = f"{IMPORT}network = chtab.Network.from_arrays([1], [2], [3], program=sys.argv[2])\n"
-    # A process that is forked lives on as long as its input does.
-    for more in "child = 0", "child = os.fork()\nif not child:\n    sys.stdin.read(); os._exit(0)":
-        with temporary() as left:
-            words = [PYTHON, "-c", f"{text}{more}\nprint(child, flush=True); time.sleep(10_000)", ROOT / "python", PROGRAM]
-            with subprocess.Popen(words, stdin=subprocess.PIPE, stdout=subprocess.PIPE) as process:
-                child = int(process.stdout.readline())
-                assert len(left()) == 1
-                process.send_signal(number)
-                process.wait()
-                until(lambda: not left(), lambda: more)
-                assert not child or os.path.exists(f"/proc/{child}")
-    slow, own = pathlib.Path("slow"), pathlib.Path("own")
-    # It builds as long as the test is in its folder.
-    slow.write_text(f"#!/bin/sh\nwhile [ \"$1\" = save ] && [ -e {slow.absolute()} ]; do sleep 0.2; done\nexec {PROGRAM} \"$@\"\n")
-    slow.chmod(0o755)
-    own.mkdir()
-    text = f"{IMPORT}chtab.Network.from_arrays([1], [2], [3], folder='own/made', workers=2, program=sys.argv[2], library=sys.argv[3])"
-    with subprocess.Popen([PYTHON, "-c", text, ROOT / "python", slow.absolute(), make()]) as process:
-        until(lambda: list(own.glob("made.part-*/network.ch")))
-        assert len(list(own.iterdir())) == 1
+def test_a_signal_leaves_no_folder(number, more):
+    """A process that is ended leaves no temporary folder, also where one that was forked from it lives on: here as long as its input."""
+    text = f"{IMPORT}import pickle; network = chtab.Network.from_arrays([1], [2], [3], program=sys.argv[2])\n{more}\nprint(child, flush=True); time.sleep(10_000)"
+    words, pipes = [PYTHON, "-c", text, ROOT / "python", PROGRAM], {"stdin": subprocess.PIPE, "stdout": subprocess.PIPE}
+    with temporary() as left, subprocess.Popen(words, **pipes) as process:
+        child = int(process.stdout.readline())
+        assert len(left()) == 1
         process.send_signal(number)
-    until(lambda: not list(own.iterdir()))
+        process.wait()
+        until(lambda: not left(), lambda: more)
+        assert not child or os.path.exists(f"/proc/{child}")
 
 
 def test_a_signal_may_close_what_is_asked():
     """Its handler closes the network in the middle of a question of the same thread, which then fails. Nothing waits for itself."""
     with of_country() as quick:
         # More columns than a single call of the library has, and more cells than it makes until the signal comes.
-        nodes = list(range(1, quick.nodes + 1))
-        with alarm(lambda *_: quick.close(), 0.5):
+        nodes, begun = list(range(1, quick.nodes + 1)), time.monotonic()
+        with alarm(lambda *_: quick.close(), lambda: time.monotonic() > begun + 0.5):
             raises(chtab.ChtabError, quick.table, nodes * 2, nodes * 8, told="the network is closed")
-
-
-def test_a_question_within_another_spoils_none():
-    """The handler of a signal may ask while its thread is in a call: both have their answers."""
-    handle, inner = handle_of(), []
-    ask = handle.ask
-
-    def asks_in_between(*words):
-        status, handle.ask = ask(*words), ask
-        inner.append(route(handle, 1, 2))
-        return status
-
-    for _ in range(3):
-        handle.ask = asks_in_between
-        (weight, nodes), (least, way) = route(handle, 0, 2), inner[-1]
-        assert (weight, nodes.tolist(), least, way.tolist()) == (9, [0, 1, 2], 5, [1, 2])
-
-
-@contextlib.contextmanager
-def little_memory(spare):
-    """Within, this process gets so many bytes more than it has."""
-    before = resource.getrlimit(resource.RLIMIT_AS)
-    held = int(pathlib.Path("/proc/self/statm").read_text().split()[0]) * resource.getpagesize()
-    resource.setrlimit(resource.RLIMIT_AS, (held + spare, before[1]))
-    try:
-        yield
-    finally:
-        resource.setrlimit(resource.RLIMIT_AS, before)
 
 
 def test_a_lack_of_memory_is_told_and_over():
@@ -248,14 +231,17 @@ def test_a_lack_of_memory_is_told_and_over():
         wanted = [call() for call in calls]
 
         def is_told():
-            count, _ = 0, network.distances([(1, 2)])
+            count, before, _ = 0, resource.getrlimit(resource.RLIMIT_AS), network.distances([(1, 2)])
             for spare, (call, owed) in itertools.product(range(4_000_000, 90_000_000, 20_000_000), zip(calls, wanted)):
-                with little_memory(spare):
-                    try:
-                        assert numpy.array_equal(call(), owed)
-                    except (MemoryError, chtab.ProgramFault) as fault:
-                        assert isinstance(fault, MemoryError) or (str(fault), fault.status) == ("chtab: out of memory", 3), fault
-                        count += 1
+                held = int(pathlib.Path("/proc/self/statm").read_text().split()[0]) * resource.getpagesize()
+                resource.setrlimit(resource.RLIMIT_AS, (held + spare, before[1]))
+                try:
+                    assert numpy.array_equal(call(), owed)
+                except (MemoryError, chtab.ProgramFault) as fault:
+                    assert isinstance(fault, MemoryError) or (str(fault), fault.status) == ("chtab: out of memory", 3), fault
+                    count += 1
+                finally:
+                    resource.setrlimit(resource.RLIMIT_AS, before)
                 assert numpy.array_equal(call(), owed)
             return count > 4
 
@@ -264,27 +250,23 @@ def test_a_lack_of_memory_is_told_and_over():
 
 def test_a_sweep_without_memory_is_left_out(monkeypatch):
     """Then the rows come by searches, whatever the samples said of them."""
-    def refused(handle):
-        raise chtab.ProgramFault("chtab: out of memory", 3)
-
     with of_country() as network:
         wanted = network.near(None, [1, 2, 3], count=2)
-        monkeypatch.setattr(library.Handle, "sweep", refused)
+        monkeypatch.setattr(library.Handle, "sweep", lambda handle: library.see_that_done(library.NO_MEMORY))
         assert rows_told(network.near(None, [1, 2, 3], count=2)) == rows_told(wanted)
 
 
 NODES = list(range(1, 601))
-SLOW = {
-    "open": lambda network: of_country().close(), "distances": lambda network: network.distances(NODES, NODES), "table": lambda network: network.table(NODES, NODES),
-    "rows_to": lambda network: network.table(NODES * 8, NODES),
-    "keep_places": lambda network: network.near([1], NODES, count=1), "sweep": lambda network: network.near(None, NODES, count=1),
-    "near_rows": lambda network: network.near(NODES, [1]), "routes_with_lines": lambda network: network.routes(NODES, NODES),
-    "near_sums": lambda network: network.accessibility(1, 2**60, sources=NODES, targets=NODES),
-}
 
 
-@pytest.mark.parametrize("name", SLOW)
-def test_a_call_of_seconds_hears_ctrl_c(monkeypatch, name):
+@pytest.mark.parametrize("name, ask", [
+    ("open", lambda network: of_country().close()), ("distances", lambda network: network.distances(NODES, NODES)),
+    ("table", lambda network: network.table(NODES, NODES)), ("rows_to", lambda network: network.table(NODES * 8, NODES)),
+    ("keep_places", lambda network: network.near([1], NODES, count=1)), ("sweep", lambda network: network.near(None, NODES, count=1)),
+    ("near_rows", lambda network: network.near(NODES, [1])), ("routes_with_lines", lambda network: network.routes(NODES, NODES)),
+    ("near_sums", lambda network: network.accessibility(1, 2**60, sources=NODES, targets=NODES)),
+])
+def test_a_call_of_seconds_hears_ctrl_c(monkeypatch, name, ask):
     """Each call of the library that may take long is broken off before it ends, and what it leaves behind answers on. It is made by another thread
     than the one that hears signals, because no call of C hears one."""
     # In a small network calls of a few hundred searches are made at once, because they take some milliseconds.
@@ -300,39 +282,13 @@ def test_a_call_of_seconds_hears_ctrl_c(monkeypatch, name):
     with of_country() as network:
         wanted = network.table(NODES[:9], NODES[:9])
         try:
-            with monkeypatch.context() as patch:
+            with monkeypatch.context() as patch, alarm(signal.default_int_handler, lambda: callers):
                 patch.setattr(library.Handle, name, late)
-                with alarm(interrupt, when=lambda: callers):
-                    raises(KeyboardInterrupt, SLOW[name], network)
-                assert callers[0] is not threading.main_thread()
+                raises(KeyboardInterrupt, ask, network)
+            assert callers[0] is not threading.main_thread()
         finally:
             may_begin.set()
         assert (network.table(NODES[:9], NODES[:9]) == wanted).all() and network.near([5], [5]).weights.tolist() == [0]
-
-
-NOTHING = numpy.zeros(0, numpy.int64)
-
-
-@pytest.mark.parametrize("name, gives, calls", [
-    ("nodes", lambda handle: 4, ["near", "routes"]), ("near_rows", lambda handle, sources, pairs: (NOTHING,) * 3, ["near"]),
-    ("routes_with_lines", lambda handle, sources, targets, room: (NOTHING,) * 4, ["routes"]),
-])
-def test_a_library_that_gives_nothing_is_no_endless_loop(monkeypatch, name, gives, calls):
-    """One that opens another number of nodes, or gives no row, is not asked on."""
-    monkeypatch.setattr(library.Handle, name, gives)
-    for call in calls:
-        raises(chtab.ProgramFault, lambda: getattr(of_first(), call)([1], [2]), told="not asked for")
-
-
-@pytest.mark.parametrize("name", ["table", "near", "accessibility"])
-def test_what_is_long_hears_ctrl_c(name):
-    """A table and near rows are broken off, long before they would end; the next question is answered."""
-    with of_country() as network:
-        nodes = list(range(1, network.nodes + 1)) * 8
-        more = {"accessibility": ((1, 2**60), {"sources": nodes, "targets": nodes})}.get(name, ((nodes, nodes), {}))
-        with alarm(interrupt, 0.5):
-            raises(KeyboardInterrupt, lambda: getattr(network, name)(*more[0], **more[1]))
-        assert network.distances([(5, 5)]).tolist() == [0] and network.near([5], [5]).weights.tolist() == [0]
 
 
 def test_time_is_looked_at_between_calls(monkeypatch):
@@ -368,7 +324,7 @@ def test_each_long_call_says_how_far_it_is(total, call):
 
 
 def test_building_says_how_far_it_is():
-    """A callable gets the steps of each stage, and True prints lines; a fault is that of the program all the same."""
+    """A callable gets the steps of each stage, and True prints lines."""
     places, seen = numpy.arange(3_600).reshape(60, 60), []
     ends = [numpy.append(across, down) for across, down in ((places[:, :-1], places[:-1]), (places[:, 1:], places[1:]))]
     more = {"both_ways": True, "progress": lambda done, total: seen.append((done, total)), "program": PROGRAM}
@@ -377,4 +333,3 @@ def test_building_says_how_far_it_is():
     text = f"{IMPORT}chtab.Network.from_arrays([1], [2], [3], progress=True, program=sys.argv[2]).close()"
     done = subprocess.run([PYTHON, "-c", text, ROOT / "python", PROGRAM], capture_output=True, text=True)
     assert done.returncode == 0 and done.stderr.startswith("chtab: ") and " of " in done.stderr, done
-    raises(TypeError, lambda: chtab.Network.open(FIRST, progress=True, program=PROGRAM), told="open has no argument 'progress'")

@@ -1,20 +1,18 @@
 """Tests networks that are built in the order of others, by `like` and by `changed`, and what happens where the other one is closed. `test_answers.py`
 compares their answers."""
 import concurrent.futures
-import json
 import os
 import pathlib
 import random
 import subprocess
 import threading
-import tracemalloc
+import time
 
 import pytest
 
-from helpers.commands import raises, temporary
+from helpers.commands import needs, raises, temporary
 from helpers.forking import forked
 from helpers.in_process import make
-from helpers.marks import needs
 from helpers.running import PROGRAM, ROOT
 from helpers.scenarios import PLACES, after, each_way, of_roads, trips_between, trips_of, with_turns  # noqa: F401
 from helpers.science import numpy, pandas, scipy
@@ -23,20 +21,12 @@ import chtab
 from chtab._engine import library as calls
 from chtab._engine import making
 from chtab._files import arc_columns
-from chtab._roads import from_arcs, scenarios
+from chtab._roads import scenarios
 
-pytestmark = pytest.mark.usefixtures("program", "each_way")
+pytestmark = pytest.mark.usefixtures("each_way")
 PATH = ROOT / "examples" / "liechtenstein.gr"
 # What builds in the order that is given, and in no other way: not with the weights of a customized network.
 built = pytest.mark.parametrize("each_way", ["built"], indirect=True)
-
-
-def written(name, text):
-    """A program."""
-    path = pathlib.Path(name).absolute()
-    path.write_text(f"#!/bin/sh\n{text}\n")
-    path.chmod(0o755)
-    return path
 
 
 @built
@@ -61,42 +51,49 @@ def test_it_is_built_in_the_order_of_the_other(library, is_by_library):
     assert order("fresh 100") not in (order("first"), order("fresh 5"))
 
 
-def test_no_program_is_run_where_the_library_builds(library):
-    with of_roads(library=library) as network:
-        object.__setattr__(network._opened.setting, "program", str(written("broken", '[ "$1" = save ] && exit 3; exit 0')))
-        with network.changed(closed=[0]) as other:
-            assert other.distances([("inn", "mill")]).tolist() == [3.0] and other.answers_by == "library"
-
-
 @built
 def test_the_program_builds_in_the_order_of_another_network():
-    """By several workers, or with progress: of the saved hierarchy of the other one, and if that is gone, in this process. Other faults stay faults."""
-    more = {"program": written("chtab", f'[ "$1" = save ] && echo "$@" >> built\nexec {PROGRAM} "$@"'), "library": make(), "workers": 2}
+    """By several workers: in the order of the other one's saved hierarchy, and if that is gone, in this process. Other faults leave nothing."""
+    program = pathlib.Path("chtab").absolute()
+    program.write_text(f'#!/bin/sh\n[ "$1" = save ] && echo "$@" >> built\nexec {PROGRAM} "$@"\n')
+    program.chmod(0o755)
+    more = {"program": program, "library": make(), "workers": 2}
     with of_roads(folder="own", **more) as network:
         assert after(network, [("inn", "mill")], closed=[0]) == [3]
         assert [line.split()[1] for line in pathlib.Path("built").read_text().splitlines()] == ["--quick", "--like"]
         os.remove("own/network.ch")
         assert after(network, [("inn", "mill")], closed=[0]) == [3] and pathlib.Path("built").read_text().count("\n") == 2
-    written("chtab", f"[ \"$2\" = --like ] && echo 'chtab: out of memory' >&2 && exit 3\nexec {PROGRAM} \"$@\"")
-    with of_roads(**more) as network:
-        raises(chtab.ProgramFault, network.changed, None, [0], told="out of memory")
+    program.write_text(f"#!/bin/sh\n[ \"$2\" = --like ] && echo 'chtab: out of memory' >&2 && exit 3\nexec {PROGRAM} \"$@\"\n")
+    with temporary() as left, of_roads(**more) as network:
+        own = left()
+        assert raises(chtab.ProgramFault, network.changed, None, [0], told="out of memory").status == 3
+        assert left() == own and network.distances([("inn", "mill")]).tolist() == [2.0]
 
 
 def test_the_old_network_answers_while_the_new_one_is_built(library):
-    """Threads ask the old network during a change, and so do forked processes, which ask both; it is closed before the new ones."""
-    with concurrent.futures.ThreadPoolExecutor(4) as threads:
+    """Threads ask the old network during changes, and forked processes ask both and hold up neither; it is closed before the new ones."""
+    with temporary() as left, concurrent.futures.ThreadPoolExecutor(4) as threads:
         network, pair = chtab.Network.open(PATH, program=PROGRAM, library=library), [(2359, 910)]
-        wanted, doubled = network.distances(pair).tolist(), [2 * weight for weight in network.graph.weights]
+        wanted, doubled, children = network.distances(pair).tolist(), [2 * weight for weight in network.graph.weights], []
         changes = [threads.submit(network.changed, doubled) for _ in range(2)]
         assert [network.distances(pair).tolist() for _ in range(50)] == [wanted] * 50
-        others = [change.result(PATIENCE) for change in changes]
-        last = threads.submit(network.changed, doubled)
+        others, last = [change.result(PATIENCE) for change in changes], threads.submit(network.changed, doubled)
+        for _ in range(5):
+            children.append(os.fork())
+            if not children[-1]:
+                time.sleep(1)
+                os._exit(0)
         assert forked(lambda: [each.distances(pair).tolist() for each in (network, *others)] == [wanted, *[[2 * wanted[0]]] * 2])
         others.append(last.result(PATIENCE))
+        assert forked(lambda: others[-1].distances(pair).tolist() == [2 * wanted[0]])
+        assert list(threads.map(lambda each: each.distances(pair)[0], [network, others[-1]] * 50)) == [wanted[0], 2 * wanted[0]] * 50
         network.close()
-        assert all(other.distances(pair).tolist() == [2 * wanted[0]] for other in others)
+        assert all(other.distances(pair).tolist() == [2 * wanted[0]] for other in others) and len(left()) == len(others)
+        for child in children:
+            os.waitpid(child, 0)
         for other in others:
             other.close()
+        assert left() == []
 
 
 def test_what_does_not_go_with_another_network_is_refused():
@@ -165,81 +162,49 @@ def test_places_are_those_of_the_other_network():
         raises(chtab.DataFault, lambda: chtab.Network.from_sparse(matrix[:3, :3], **more), told="nodes has 4 rows, and the matrix 3")
 
 
-def test_little_is_kept_for_what_stays_as_it_was():
-    """Labels are compared without a list of them, and the rows of arcs are written only where they are no longer those of their numbers."""
-    labels = numpy.array([f"node {number}" for number in range(50_000)], object)
-    others = labels.copy()
-    tracemalloc.start()
-    try:
-        from_arcs.see_that_same_nodes(labels, labels)
-        from_arcs.see_that_same_nodes(labels, others)
-        assert tracemalloc.get_traced_memory()[1] < 200_000
-    finally:
-        tracemalloc.stop()
-    others[7] = "elsewhere"
-    assert raises(chtab.DataFault, from_arcs.see_that_same_nodes, labels, others, told="node 'elsewhere' is 'node 7' in like").row == 7
-    of_roads(folder="own").close()
-    for before, folder, change, rows in (
-        ("own", "same", {"weights": {0: 9}}, None), ("own", "less", {"closed": [1]}, [0, 2, 3, 4]), ("less", "last", {"weights": {4: 1}}, [0, 2, 3, 4]),
-    ):
-        with chtab.Network.open(before, program=PROGRAM) as network:
-            network.changed(**change, folder=folder).close()
-        assert json.loads(pathlib.Path(folder, "network.json").read_text())["arcs"] == rows
-
-
-def with_files():
-    """A network of files, without a saved hierarchy."""
-    for name, text in ("own.gr", "p sp 2 2\na 1 2 5\na 2 1 4\n"), ("own.co", "p aux sp co 2\nv 1 9500000 47100000\nv 2 9520000 47110000\n"):
-        pathlib.Path(name).write_text(text)
-    return chtab.Network.open("own.gr", program=PROGRAM)
-
-
 @pytest.mark.parametrize("is_known", [False, True])
-@pytest.mark.parametrize("making_it, arcs", [(of_roads, (["inn"], ["mill"], [3])), (with_files, ([1], [2], [3]))])
-def test_a_closed_network_is_neither_changed_nor_followed(making_it, arcs, is_known):
+@pytest.mark.parametrize("of_files", [False, True])
+def test_a_closed_network_is_neither_changed_nor_followed(of_files, is_known):
     """Its files may be there or gone, and what they hold may be known already: each call says that it is closed, and leaves nothing behind."""
+    pathlib.Path("own.gr").write_text("p sp 2 2\na 1 2 5\na 2 1 4\n")
+    pathlib.Path("own.co").write_text("p aux sp co 2\nv 1 9500000 47100000\nv 2 9520000 47110000\n")
+    tail, head = (1, 2) if of_files else ("inn", "mill")
     with temporary() as left:
-        network = making_it()
+        network = chtab.Network.open("own.gr", program=PROGRAM) if of_files else of_roads()
         if is_known:
             network.graph, network.coordinates
         network.close()
         for call in (
-            lambda: network.changed(closed=[0]), lambda: network.changed({0: 3}), lambda: network.changed(added=[(*arcs[0], *arcs[1], 3)]),
-            lambda: chtab.Network.from_arrays(*arcs, like=network, program=PROGRAM), lambda: network.changed(folder="new"),
-            lambda: chtab.Network.from_arrays(*arcs, nodes=network.labels, like=network, program=PROGRAM),
+            lambda: network.changed(closed=[0]), lambda: network.changed({0: 3}), lambda: network.changed(added=[(tail, head, 3)]),
+            lambda: network.changed(folder="new"), lambda: chtab.Network.from_arrays([tail], [head], [3], like=network, program=PROGRAM),
+            lambda: chtab.Network.from_arrays([tail], [head], [3], nodes=network.labels, like=network, program=PROGRAM),
         ):
             raises(chtab.ChtabError, call, told="the network is closed")
         assert left() == [] and not os.path.exists("new")
 
 
-STEPS = (
-    (scenarios, "ArcNames"), (arc_columns, "whole_weights"), (making, "Beside"), (making, "write"), (making.Beside, "copy_to"), (making, "build"),
-    (making, "save_like"), (calls.Handle, "open_like"),
-)
-
-
-def test_the_old_network_may_close_at_any_step(monkeypatch):
+@pytest.mark.parametrize("owner, name", [
+    (scenarios, "ArcNames"), (arc_columns, "whole_weights"), (making, "Beside"), (making, "built"), (making, "write_graph"), (calls.Handle, "open_like"),
+])
+@pytest.mark.parametrize("is_beside", [False, True])
+def test_the_old_network_may_close_at_any_step(monkeypatch, owner, name, is_beside):
     """At each step of a change the old network is closed, at once or by another thread: the change succeeds, or says that the network is closed."""
-    passed = 0
-    for owner, name, is_beside in [(*step, is_beside) for step in STEPS for is_beside in (False, True)]:
-        with temporary() as left, monkeypatch.context() as patch:
-            network, seen, real = of_roads(), [], getattr(owner, name)
+    with temporary() as left:
+        network, seen, real = of_roads(), [], getattr(owner, name)
 
-            def called(*words, **more):
-                if not seen:
-                    seen.append(threading.Thread(target=network.close))
-                    seen[0].start() if is_beside else network.close()
-                return real(*words, **more)
+        def called(*words, **more):
+            if not seen:
+                seen.append(threading.Thread(target=network.close))
+                seen[0].start() if is_beside else network.close()
+            return real(*words, **more)
 
-            patch.setattr(owner, name, called)
-            try:
-                with network.changed({0: 2.5}, closed=[1], added=[("mill", "farm", 1)]) as other:
-                    assert other.distances([("inn", "mill"), ("mill", "farm")]).tolist() == [2.5, 1], name
-                    passed += bool(seen)
-            except chtab.ChtabError as fault:
-                assert str(fault) == "the network is closed", (name, fault)
-            for thread in seen if is_beside else []:
-                thread.join(PATIENCE)
-            network.close()
-            assert left() == [], name
-    assert passed
+        monkeypatch.setattr(owner, name, called)
+        try:
+            with network.changed({0: 2.5}, closed=[1], added=[("mill", "farm", 1)]) as other:
+                assert other.distances([("inn", "mill"), ("mill", "farm")]).tolist() == [2.5, 1]
+        except chtab.ChtabError as fault:
+            assert str(fault) == "the network is closed" and seen
+        for thread in seen if is_beside else []:
+            thread.join(PATIENCE)
+        network.close()
+        assert left() == []

@@ -6,8 +6,8 @@ import pathlib
 import random
 import shutil
 
+from helpers.commands import needs
 from helpers.maps import COUNTRY, tool, town, town_at_a_cost
-from helpers.marks import needs
 from helpers.running import PROGRAM
 from chtab.errors import FileFault
 from chtab_server.osrm import url

@@ -12,71 +12,70 @@ import re
 import subprocess
 
 from helpers import tables
+from helpers.commands import needs
 from helpers.maps import BLOCK, COUNTRY, ROAD, arcs_of, called, converted, fault_of, in_line, noted, osm, random_map, refused, tool, weights
-from helpers.marks import needs
 from helpers.packages import PYTHON
 from helpers.running import ROOT
 from oracles import mapping
 from chtab import files
 from chtab_maps import converting, parts, profiles
-from chtab._roads.sphere import RADIUS
 
 
 def test_barriers_leave_dead_ends():
+    """A closed barrier cuts all roads at its node; tags of access and the way of travelling say which are closed."""
     bollard = {"barrier": "bollard"}
     made, report = converted(in_line(3, at={2: bollard}))
     assert made.arcs == [(1, 2, BLOCK), (2, 1, BLOCK), (3, 4, BLOCK), (4, 3, BLOCK)] and made.names == [1, 2, 2, 3]
     assert report.total("barriers") == 1
-    for choices in {}, {"nodes": "all"}:
-        made, _ = converted(in_line(5, at={2: bollard, 4: bollard}), **choices)
-        assert made.names == ([1, 2, 2, 3, 4, 4, 5] if choices else [1, 2, 2, 4, 4, 5])
+    for choices, names in ({}, [1, 2, 2, 4, 4, 5]), ({"nodes": "all"}, [1, 2, 2, 3, 4, 4, 5]):
+        assert converted(in_line(5, at={2: bollard, 4: bollard}), **choices)[0].names == names
     star = osm({1: (0, 0, bollard), 2: (1, 0), 3: (0, 1), 4: (-1, 0)}, [([2, 1, 4], ROAD), ([1, 3], ROAD)])
     assert converted(star)[0].names == [1, 1, 1, 2, 3, 4]
     assert len(arcs_of(in_line(2, at={1: bollard, 2: bollard}))) == 2
-    for tags, is_open in [
-        ({"barrier": "gate"}, True), ({"barrier": "gate", "access": "private"}, False), ({"barrier": "bollard", "motor_vehicle": "yes"}, True),
-        ({"barrier": "gate", "access": "no", "motorcar": "yes"}, True), ({"barrier": "unheard_of"}, False),
-        ({"barrier": "kerb;bollard"}, False),
-        ({"barrier": "gate", "access": "private;destination"}, True), ({"access": "no"}, True),
+    for tags, profile, is_open in [
+        ({"barrier": "gate"}, "car", True), ({"barrier": "gate", "access": "private"}, "car", False),
+        (bollard | {"motor_vehicle": "yes"}, "car", True), ({"barrier": "gate", "access": "no", "motorcar": "yes"}, "car", True),
+        ({"barrier": "unheard_of"}, "car", False), ({"barrier": "kerb;bollard"}, "car", False),
+        ({"barrier": "gate", "access": "private;destination"}, "car", True), ({"access": "no"}, "car", True), (bollard, "bicycle", True),
+        (bollard, "foot", True), *(({"barrier": "stile"}, profile, profile == "foot") for profile in profiles.NAMES),
+        ({"barrier": "gate"}, "bicycle", True), ({"barrier": "gate"}, "foot", True),
+        ({"barrier": "cycle_barrier", "bicycle": "dismount"}, "bicycle", True),
     ]:
-        assert len(arcs_of(in_line(3, at={2: tags}))) == (2 if is_open else 4), tags
-    for profile, closed in {"car": {"bollard", "stile"}, "bicycle": {"stile"}, "foot": set()}.items():
-        for kind in "bollard", "stile", "gate":
-            assert len(arcs_of(in_line(3, at={2: {"barrier": kind}}), profile=profile)) == (4 if kind in closed else 2), (profile, kind)
-    assert len(arcs_of(in_line(3, at={2: {"barrier": "cycle_barrier", "bicycle": "dismount"}}), profile="bicycle")) == 2
+        assert len(arcs_of(in_line(3, at={2: tags}), profile=profile)) == (2 if is_open else 4), (tags, profile)
 
 
 def test_lists_in_tags_are_sets():
+    """Words of a list in any order, and of the tags of access the one that says most of cars; other tags close a way for whoever can't pass there."""
     for value, is_open in [
         ("forestry;agricultural", False), ("agricultural; forestry", False), ("psv;taxi", False), ("private;destination", True),
         ("destination;private", True), ("no;permissive", True), ("bus", False), ("yes", True), ("never heard of", True),
         ("never heard of;private", False), ("delivery", False), ("", True),
     ]:
         assert (weights(ROAD | {"access": value}) is not None) == is_open, value
-    assert weights(ROAD | {"smoothness": "impassable"}) is None and weights(ROAD | {"smoothness": "bad"})
-    assert weights(ROAD | {"smoothness": "impassable"}, profile="bicycle") is None and weights(ROAD | {"smoothness": "impassable"}, profile="foot")
-    assert weights({"highway": "service", "service": "emergency_access"}) is None
-    assert weights(ROAD | {"area": "yes"}) is None and weights({"highway": "rest_area"}) is None
-    for tags, is_open in [
-        ({"access": "no", "motorcar": "yes"}, True), ({"motorcar": "no", "access": "yes"}, False),
-        ({"vehicle": "no", "motor_vehicle": "yes"}, True),
-        ({"motor_vehicle": "private", "access": "yes"}, False), ({"motorcar": "what?", "vehicle": "no"}, False), ({"bicycle": "no"}, True),
+    for tags, profile, is_open in [
+        ({"smoothness": "impassable"}, "car", False), ({"smoothness": "bad"}, "car", True), ({"smoothness": "impassable"}, "bicycle", False),
+        ({"smoothness": "impassable"}, "foot", True), ({"highway": "service", "service": "emergency_access"}, "car", False),
+        ({"area": "yes"}, "car", False), ({"highway": "rest_area"}, "car", False), ({"access": "no", "motorcar": "yes"}, "car", True),
+        ({"motorcar": "no", "access": "yes"}, "car", False), ({"vehicle": "no", "motor_vehicle": "yes"}, "car", True),
+        ({"motor_vehicle": "private", "access": "yes"}, "car", False), ({"motorcar": "what?", "vehicle": "no"}, "car", False),
+        ({"bicycle": "no"}, "car", True),
     ]:
-        assert (weights(ROAD | tags) is not None) == is_open, tags
+        assert (weights(ROAD | tags, profile=profile) is not None) == is_open, (tags, profile)
     assert noted(in_line(2, ROAD | {"motorcar": "what?"})) == {"access": {"motorcar=what?": 1}}
 
 
 def test_deleted_things_are_not_there():
+    """Nodes and ways that an editor has marked so; other marks say nothing."""
+    two = osm({1: (0, 0), 2: (1, 0), 3: (2, 0)}, [([1, 2], ROAD), ([2, 3], ROAD)])
     for head in "action='delete'", "visible='false'":
-        text = in_line(4)
-        assert len(arcs_of(text.replace("<node id='4'", f"<node id='4' {head}"))) == 2
-        assert arcs_of(text.replace("<node id='4'", f"<node id='4' {head}"))[0][:2] == (1, 3)
-        two = osm({1: (0, 0), 2: (1, 0), 3: (2, 0)}, [([1, 2], ROAD), ([2, 3], ROAD)]).replace("<way id='2'", f"<way id='2' {head}")
-        assert arcs_of(two) == [(1, 2, BLOCK), (2, 1, BLOCK)] and noted(two) == {"deleted": {"": 1}}
+        found, left = arcs_of(in_line(4).replace("<node id='4'", f"<node id='4' {head}")), two.replace("<way id='2'", f"<way id='2' {head}")
+        assert len(found) == 2 and found[0][:2] == (1, 3)
+        assert arcs_of(left) == [(1, 2, BLOCK), (2, 1, BLOCK)] and noted(left) == {"deleted": {"": 1}}
     assert weights(ROAD) == (BLOCK, BLOCK) and arcs_of(in_line(2).replace("<node", "<node action='modify' visible='true'"))
 
 
 def test_limits_of_speed():
+    """Each form of a limit, in any unit, for both directions or one; what can't be read is reported, and the usual speed counts."""
     def at(speed):
         return round(111.19508 * 3600 / speed)
 
@@ -91,24 +90,26 @@ def test_limits_of_speed():
     for value in "fast", "-5", "0", "5,5", "1e2", "50 @ (22:00-06:00)", "XX:urban", "30 leagues", "", ".5", "٣٠", "1000", "201", "130 mph", "DE:zone:900":
         assert weights(ROAD | {"maxspeed": value}) == (BLOCK, BLOCK), value
         assert noted(in_line(2, ROAD | {"maxspeed": value})) == {"speeds": {f"maxspeed={value}": 1}}, value
-    assert weights(ROAD | {"maxspeed": "what;60"})[0] == at(60)
-    both = weights(ROAD | {"maxspeed": "60", "maxspeed:forward": "120", "maxspeed:backward": "DE:urban"})
-    assert both == (at(120), at(50)) and weights(ROAD | {"maxspeed": "60", "maxspeed:backward": "120"}) == (at(60), at(120))
-    cycled = [weights({"highway": "cycleway", "maxspeed": value}, profile="bicycle")[0] for value in ("5", "50")]
-    assert cycled == [at(5), at(18)] and weights(ROAD | {"maxspeed": "3"}, profile="foot")[0] == at(5)
+    for tags, profile, speeds in (
+        ({"maxspeed": "what;60"}, "car", (60, 60)),
+        ({"maxspeed": "60", "maxspeed:forward": "120", "maxspeed:backward": "DE:urban"}, "car", (120, 50)),
+        ({"maxspeed": "60", "maxspeed:backward": "120"}, "car", (60, 120)), ({"highway": "cycleway", "maxspeed": "5"}, "bicycle", (5, 5)),
+        ({"highway": "cycleway", "maxspeed": "50"}, "bicycle", (18, 18)), ({"maxspeed": "3"}, "foot", (5, 5)),
+    ):
+        assert weights(ROAD | tags, profile=profile) == tuple(map(at, speeds)), tags
 
 
 def test_directions():
+    """In which directions a way is open: as it is drawn, against it, or both."""
     for tags, sides in [
         ({"oneway": "yes"}, "+"), ({"oneway": "1"}, "+"), ({"oneway": "true"}, "+"), ({"oneway": "-1"}, "-"), ({"oneway": "reverse"}, "-"),
         ({"oneway": "no"}, "+-"), ({"oneway": "alternating"}, "+-"), ({"oneway": "perhaps"}, "+-"), ({"junction": "roundabout"}, "+"),
         ({"junction": "circular", "oneway": "no"}, "+-"), ({"highway": "motorway"}, "+"), ({"highway": "motorway", "oneway": "no"}, "+-"),
         ({"highway": "motorway_link"}, "+-"), ({"oneway": "yes", "oneway:motor_vehicle": "no"}, "+-"),
-        ({"oneway:bicycle": "no", "oneway": "yes"}, "+"),
+        ({"oneway:bicycle": "no", "oneway": "yes"}, "+"), ({"oneway": "reversible"}, ""),
     ]:
-        along, against = weights(ROAD | tags)
+        along, against = weights(ROAD | tags) or (None, None)
         assert (along is not None, against is not None) == ("+" in sides, "-" in sides), tags
-    assert weights(ROAD | {"oneway": "reversible"}) is None
     assert noted(in_line(2, ROAD | {"oneway": "perhaps"})) == {"oneway": {"oneway=perhaps": 1}}
 
 
@@ -140,19 +141,15 @@ def test_profiles_differ():
 
 
 def test_tables_are_sound():
-    """No word stands in two lists, each table names its page, and each kind of way takes the speed of its line."""
+    """No word is in two lists, and each kind of way takes the speed of its line, where that is opened if need be."""
     for name in profiles.NAMES:
-        profile, text = profiles.profile(name), (profiles.TABLES / f"{name}.toml").read_text()
+        profile = profiles.profile(name)
         assert not profile.access.open & profile.access.closed and not profile.barriers.open & profile.barriers.closed
         assert not profile.speeds.keys() & profile.speeds_where_opened.keys() and profile.limit in profiles.LIMITS
-        for table in "speeds", "speeds_where_opened", "access", "closed_by", "oneway", "ferries", "barriers", "turns":
-            before = text[:text.index(f"\n[{table}]")].split("\n\n")[-1]
-            assert "# https://wiki.openstreetmap.org/wiki/" in before, (name, table)
-        for kind, speed in profile.speeds.items():
-            assert weights({"highway": kind}, profile=name)[0] == round(111.19508 * 3600 / speed), (name, kind)
-        for kind, speed in profile.speeds_where_opened.items():
-            assert weights({"highway": kind}, profile=name) is None
-            assert weights({"highway": kind, profile.access.tags[0]: "yes"}, profile=name)[0] == round(111.19508 * 3600 / speed), (name, kind)
+        for kind, speed in (profile.speeds | profile.speeds_where_opened).items():
+            tags = {"highway": kind} | ({} if kind in profile.speeds else {profile.access.tags[0]: "yes"})
+            assert weights(tags, profile=name)[0] == round(111.19508 * 3600 / speed), (name, kind)
+            assert kind in profile.speeds or weights({"highway": kind}, profile=name) is None
 
 
 def test_the_page_has_the_tables():
@@ -165,13 +162,13 @@ def test_the_page_has_the_tables():
 
 
 def test_ferries_take_their_time():
-    ferry = {"route": "ferry"}
-    nodes = {1: (0, 0), 2: (30, 0), 3: (90, 0)}
+    """Their duration is shared among their pieces; without one they have a speed. They carry whom their tags name, and can be left out."""
+    ferry, nodes = {"route": "ferry"}, {1: (0, 0), 2: (30, 0), 3: (90, 0)}
     for duration, seconds in {"00:30": 1800, "1:00": 3600, "45": 2700, "00:20:30": 1230, "PT1H30M": 5400, "P1D": 86_400}.items():
-        ways = [([1, 2, 3], ferry | {"duration": duration}), ([2, 1], {"highway": "track"})]
+        ways, third = [([1, 2, 3], ferry | {"duration": duration}), ([2, 1], {"highway": "track"})], seconds // 3
         found = {arc[:2]: arc[2] for arc in arcs_of(osm(nodes, ways))[:4]}
-        assert found == {(1, 2): seconds * 333 + seconds // 3, (2, 1): seconds * 333 + seconds // 3, (2, 3): seconds * 667 - seconds // 3,
-                         (3, 2): seconds * 667 - seconds // 3}, (duration, found)
+        first, last = seconds * 333 + third, seconds * 667 - third
+        assert found == {(1, 2): first, (2, 1): first, (2, 3): last, (3, 2): last}, (duration, found)
     for tags in {}, {"duration": "soon"}, {"duration": "0"}:
         assert weights(ferry | tags)[0] == round(111.19508 * 3600 / 15)
         assert noted(in_line(2, ferry | tags)) == {"durations": {f"duration={tags['duration']}" if tags else "": 1}}
@@ -186,6 +183,7 @@ def test_ferries_take_their_time():
 
 
 def test_what_is_left_out_is_told():
+    """In a table on standard error, unless that is to be quiet, and in a file with a line for each object."""
     nodes = {number: (number, 0) for number in range(1, 10)} | {3: (3, 0, {"barrier": "bollard"}), 4: (4, 0, {"barrier": "dragon"})}
     ways = [
         ([1, 2, 3, 4, 5], ROAD), ([5, 6], {"highway": "footway"}), ([5, 7], {"highway": "footway"}), ([5, 8], {"highway": "steps"}),
@@ -213,32 +211,24 @@ def test_what_is_left_out_is_told():
         "  1  turn restrictions left out                           1 over ways",
         "  4  nodes of smaller components                          4 of 8, in 2 parts of 2 nodes and fewer",
     ], table
-    assert tool("osm_to_gr", "--turns", "--quiet", "all.osm", "all")[1] == ""
-    what_is_left_out_is_logged()
+    assert tool("osm_to_gr", "--turns", "--quiet", "--log", "all.csv", "all.osm", "all")[1] == ""
+    head, *rows = [line.split(",", 3) for line in pathlib.Path("all.csv").read_text().splitlines()]
+    objects = {}
+    for thing, number, reason, words in rows:
+        objects.setdefault(reason.partition(":")[0], set()).add(f"{thing} {number} {words}".strip())
+    apart = {each.split()[1] for each in objects.pop("nodes of smaller components")}
+    assert apart and not apart & {*pathlib.Path("all.nodes").read_text().split()} - {"3", "4"} and head == ["object", "id", "reason", "words"]
+    assert objects == {
+        "ways of other kinds": {"way 2 highway=footway", "way 3 highway=footway", "way 4 highway=steps"},
+        "ways closed by their tags": {"way 5 access=private"}, "ways whose direction changes with the time": {"way 6"},
+        "ways of fewer than two nodes": {"way 7", "way 8"}, "nodes of roads that the map doesn't have": {"node 99"},
+        "closed barriers": {"node 3 barrier=bollard", "node 4 barrier=dragon"}, "barriers of unknown kind": {"node 4 barrier=dragon"},
+        "access tags passed over": {"way 11 motorcar=what?"}, "one-way tags passed over": {"way 11 oneway=perhaps"},
+        "limits of speed passed over": {"way 9 maxspeed=fast"}, "ferries without a readable duration": {"way 10"},
+        "turn restrictions left out": {"relation 1 over ways"},
+    }, objects
     pathlib.Path("two.osm").write_text(in_line(2))
     assert tool("osm_to_gr", "two.osm", "two")[1] == "left out of two.osm, for cars: nothing\n"
-
-
-def what_is_left_out_is_logged():
-    """The map of the test above once more: each object has its line."""
-    tool("osm_to_gr", "--turns", "--quiet", "--log", "all.csv", "all.osm", "all")
-    rows = [line.split(",", 3) for line in pathlib.Path("all.csv").read_text().splitlines()]
-    assert rows[0] == ["object", "id", "reason", "words"]
-    told = {(thing, number, reason.partition(":")[0], words) for thing, number, reason, words in rows[1:]}
-    assert told >= {
-        ("way", "2", "ways of other kinds", "highway=footway"), ("way", "3", "ways of other kinds", "highway=footway"),
-        ("way", "4", "ways of other kinds", "highway=steps"), ("way", "5", "ways closed by their tags", "access=private"),
-        ("way", "6", "ways whose direction changes with the time", ""), ("way", "7", "ways of fewer than two nodes", ""),
-        ("way", "8", "ways of fewer than two nodes", ""), ("node", "99", "nodes of roads that the map doesn't have", ""),
-        ("node", "3", "closed barriers", "barrier=bollard"), ("node", "4", "barriers of unknown kind", "barrier=dragon"),
-        ("way", "9", "limits of speed passed over", "maxspeed=fast"), ("way", "10", "ferries without a readable duration", ""),
-        ("way", "11", "one-way tags passed over", "oneway=perhaps"), ("way", "11", "access tags passed over", "motorcar=what?"),
-        ("relation", "1", "turn restrictions left out", "over ways"),
-    }, rows
-    assert {row[0] for row in told} == {"way", "node", "relation"} and not any(number == "12" for _, number, *_ in told), rows
-    names = set(pathlib.Path("all.nodes").read_text().split())
-    apart = {number for thing, number, reason, _ in told if reason == "nodes of smaller components"}
-    assert apart and not apart & names - {"3", "4"}, (apart, names)
 
 
 def test_what_comes_twice_or_lies_nowhere_is_told():
@@ -255,8 +245,11 @@ def test_what_comes_twice_or_lies_nowhere_is_told():
 
 
 def test_parts_are_kept():
+    """All, the largest, one by its number, or the large ones: components of at least a hundredth of the largest one, and of two nodes, on large maps
+    of 250, with what lies between them."""
     nodes = {number: (number, 0) for number in range(1, 10)}
-    text = osm(nodes, [([1, 2], ROAD), ([3, 4, 5, 6], ROAD), ([4, 9], ROAD), ([7, 8], ROAD | {"oneway": "yes"})])
+    ways = [([1, 2], ROAD), ([3, 4, 5, 6], ROAD), ([4, 9], ROAD), ([7, 8], ROAD | {"oneway": "yes"})]
+    text, joined = osm(nodes, ways), osm(nodes, [*ways, ([2, 3], ROAD | {"oneway": "yes"})])
     assert {name: converted(text, part=name)[0].names for name in ("all", "largest", 1, 2, 3, 4)} == {
         "all": [1, 2, 3, 4, 6, 7, 8, 9], "largest": [3, 4, 6, 9], 1: [3, 4, 6, 9], 2: [1, 2], 3: [7], 4: [8]
     }
@@ -265,46 +258,43 @@ def test_parts_are_kept():
     assert refused("--part", "5", "parts.osm", "parts") == "osm_to_gr: there is no part 5: the roads have 4\n"
     for word in "0", "-1", "some":
         tool("osm_to_gr", "--part", word, "parts.osm", "parts", status=2)
-
-
-def test_large_parts_are_kept():
-    """Each component of at least a hundredth of the largest one, and of two nodes, and on large maps of 250 nodes; what lies between them is not."""
     assert parts.large([(0, 8), (1, 2), (2, 1)]) == 2 and parts.large([(4, 1), (2, 1)]) == 1
     assert parts.large([(0, 900), (1, 10), (2, 9), (3, 8)]) == 3 and parts.large([(0, 100_000), (1, 250), (2, 249)]) == 2
-    nodes = {number: (number, 0) for number in range(1, 10)}
-    text = osm(nodes, [([1, 2], ROAD), ([3, 4, 5, 6], ROAD), ([4, 9], ROAD), ([7, 8], ROAD | {"oneway": "yes"}), ([2, 3], ROAD | {"oneway": "yes"})])
-    made, report = converted(text, part="large")
+    made, report = converted(joined, part="large")
     assert made.names == [1, 2, 3, 4, 6, 9] and report.total("parts") == 2
     assert (2, 3) in {(made.names[tail - 1], made.names[head - 1]) for tail, head, _ in made.arcs}, "one way from one to the other"
     assert converted(osm(nodes, [([1, 2], ROAD | {"oneway": "yes"})]), part="large")[0].names == [1]
 
 
 def test_classes_of_ways_are_excluded():
-    nodes = {number: (number, 0) for number in range(1, 8)}
+    """Toll roads, motorways with their links, and ferries, as they are named; their number is printed, and the graph says what it lacks."""
     kinds = [ROAD, ROAD | {"toll": "yes"}, {"highway": "motorway"}, {"highway": "motorway_link"}, {"route": "ferry"}, ROAD | {"toll": "no"}]
-    text = osm(nodes, [([number, number + 1], tags) for number, tags in enumerate(kinds, 1)])
-
-    def kept(*classes):
+    text = osm({number: (number, 0) for number in range(1, 8)}, [([number, number + 1], tags) for number, tags in enumerate(kinds, 1)])
+    for classes, kept, count in (
+        ((), [1, 2, 3, 4, 5, 6], 0), (["toll"], [1, 3, 4, 5, 6], 1), (["motorway"], [1, 2, 5, 6], 2), (["ferry"], [1, 2, 3, 4, 6], 1),
+        (["toll", "motorway", "ferry"], [1, 6], 4),
+    ):
         made, report = converted(text, exclude=classes)
-        return [number for number in range(1, 7) if number in made.ways], report.total("excluded")
-
-    assert kept() == ([1, 2, 3, 4, 5, 6], 0) and kept("toll") == ([1, 3, 4, 5, 6], 1) and kept("motorway") == ([1, 2, 5, 6], 2)
-    assert kept("ferry") == ([1, 2, 3, 4, 6], 1) and kept("toll", "motorway", "ferry") == ([1, 6], 4)
-    pathlib.Path("classes.osm").write_text(text)
-    tool("osm_to_gr", "--quiet", "--part", "all", "--exclude", "ferry,toll", "classes.osm", "classes")
+        assert (sorted({*made.ways}), report.total("excluded")) == (kept, count), classes
+    tool("osm_to_gr", "--quiet", "--part", "all", "--exclude", "ferry,toll", "map.osm", "classes")
     assert "part all, without toll, without ferry." in open("classes.gr").readline()
     for word in "", "toll,", "bridge", "toll;ferry":
-        tool("osm_to_gr", "--exclude", word, "classes.osm", "classes", status=2)
+        tool("osm_to_gr", "--exclude", word, "map.osm", "classes", status=2)
 
 
 def test_files_of_all_forms():
+    """Plain and packed, as files and through a pipe; what is cut short, spoilt or no map is refused in one line, and so are binary ones without
+    pyosmium, the one package that is needed for any."""
     text = in_line(3, at={2: {"barrier": "bollard"}}).encode()
     wanted = "p sp 4 4\na 1 2 13343\na 2 1 13343\na 3 4 13343\na 4 3 13343\n"
-    packers = {"osm": bytes, "osm.gz": gzip.compress, "osm.bz2": bz2.compress, "osm.xz": lzma.compress}
-    for suffix, packer in packers.items():
+    os.mkdir("none")
+    for package in "numpy", "osmium", "scipy":
+        pathlib.Path("none", f"{package}.py").write_text("raise ImportError\n")
+    alone = os.environ | {"PYTHONPATH": "none"}
+    for suffix, packer in {"osm": bytes, "osm.gz": gzip.compress, "osm.bz2": bz2.compress, "osm.xz": lzma.compress}.items():
         pathlib.Path(f"map.{suffix}").write_bytes(packer(text))
         for words, given in (([f"map.{suffix}"], None), (["-"], packer(text))):
-            tool("osm_to_gr", "--part", "all", *words, "out", text=given)
+            tool("osm_to_gr", "--part", "all", *words, "out", text=given, env=alone)
             assert "".join(line for line in open("out.gr") if line[0] != "c") == wanted, suffix
             assert ("from standard input:" if given else f"from map.{suffix}:") in open("out.gr").readline()
         pathlib.Path("short").write_bytes(packer(text)[:-20])
@@ -321,13 +311,11 @@ def test_files_of_all_forms():
         in_line(2, {"highway": "footway"}): "the map has no road for cars", text.decode().replace("<nd ref='1'", "<nd ref='1e99'"): "line 5: ",
     }
     for given, fault in faults.items():
-        assert fault in refused("-", "none", text=given.encode()), (given, refused("-", "none", text=given.encode()))
+        assert fault in (told := refused("-", "none", text=given.encode())), (given, told)
     assert "No such file" in refused("nowhere.osm", "none")
     assert "no road for people on foot" in refused("--profile", "foot", "-", "none", text=b"<osm/>")
-    pathlib.Path("none").mkdir()
-    pathlib.Path("none", "osmium.py").write_text("raise ImportError\n")
     pathlib.Path("empty.osm.pbf").write_bytes(b"\0\0\0\x0e\x0a\x09OSMHeader\x18\x10")
-    assert "python3-pyosmium" in refused("empty.osm.pbf", "none", env=os.environ | {"PYTHONPATH": "none"})
+    assert "python3-pyosmium" in refused("empty.osm.pbf", "none", env=alone) and "Example:" in tool("osm_to_gr", "--help", env=alone)[0]
 
 
 @needs("python3-pyosmium")
@@ -337,8 +325,7 @@ def test_maps_in_binary():
 
     nodes = {1: (0, 0), 2: (1, 0, {"barrier": "gate, locked = 5 %;bollard"}), -3: (2, 0), 4: (3, 1)}
     turn = [("way", 1, "from"), ("node", 1, "via"), ("way", 1, "to")], {"type": "restriction", "restriction": "no_u_turn"}
-    odd = osm(nodes, [([1, 2, -3, 99, 4, 1], ROAD), ([], ROAD)], [turn])
-    pathlib.Path("odd.osm").write_text(odd)
+    pathlib.Path("odd.osm").write_text(osm(nodes, [([1, 2, -3, 99, 4, 1], ROAD), ([], ROAD)], [turn]))
     for name, given in (("odd", "odd.osm"), ("country", f"{COUNTRY}.osm.bz2")):
         writer = osmium.SimpleWriter(f"{name}.osm.pbf")
         calls = {kind: lambda _, each, add=getattr(writer, f"add_{kind}"): add(each) for kind in ("node", "way", "relation")}
@@ -384,9 +371,8 @@ def test_weights_are_rounded_once():
     """On the equator and on a meridian a degree is 111,195.08 m; no arc is 0 but where two nodes lie at one place."""
     draw = random.Random("weights")
     for _ in range(50):
-        places = [(draw.uniform(-180_000, 180_000), draw.uniform(-90_000, 90_000))]
-        places += [(places[0][0] + draw.uniform(-3, 3), max(-90_000, min(90_000, places[0][1] + draw.uniform(-3, 3)))) for _ in range(9)]
-        places = [(max(-180_000, min(180_000, x)), y) for x, y in places]
+        x, y = draw.uniform(-179_997, 179_997), draw.uniform(-89_997, 89_997)
+        places = [(x + draw.uniform(-3, 3), y + draw.uniform(-3, 3)) for _ in range(10)]
         speed = draw.choice((7, 30, 50, 130))
         text = osm(dict(enumerate(places, 1)), [(list(range(1, 11)), ROAD | {"maxspeed": str(speed)})])
         bends = [arc[2] for arc in arcs_of(text, nodes="all") if arc[0] < arc[1]]
@@ -395,45 +381,25 @@ def test_weights_are_rounded_once():
     tiny = osm({1: (0, 0), 2: (0.0001, 0), 3: (0.0001, 0)}, [([1, 2, 3], {"highway": "motorway"})])
     for metric in "time", "metres":
         assert [arc[2] for arc in arcs_of(tiny, nodes="all", metric=metric)] == [1, 0]
-    round_the_world = osm({1: (179_999.5, 0), 2: (-179_999.5, 0)}, [([1, 2], ROAD)])
-    assert arcs_of(round_the_world)[0][2] == BLOCK
+    assert arcs_of(osm({1: (179_999.5, 0), 2: (-179_999.5, 0)}, [([1, 2], ROAD)]))[0][2] == BLOCK
     assert arcs_of(osm({1: (0, 0), 2: (180_000, 0)}, [([1, 2], ROAD)]), metric="metres")[0][2] == 20_015_114
     assert len(arcs_of(osm({1: (0, 0), 2: (1, 0)}, [([1, 1, 2, 2], ROAD)]), nodes="all")) == 2
 
 
-def test_the_sphere_is_like_the_earth():
-    """The radii of curvature of the ellipsoid WGS 84, from the least to the greatest, differ from the sphere's by less than 0.6 %."""
-    wide, high = 6_378_137, 6_356_752.3142
-    assert all(abs(radius / RADIUS - 1) < 0.006 for radius in (high * high / wide, wide, wide * wide / high))
-
-
 def test_bends_of_arcs():
-    pathlib.Path("bends.osm").write_text(osm({1: (0, 0), 2: (1, 0), 3: (1, 1), 4: (2, 2)}, [([1, 2, 3, 4], ROAD)]))
-    tool("osm_to_gr", "--bends", "--quiet", "bends.osm", "bends")
-    assert files.read_bends("bends.bends") == {0: [(0.001, 0), (0.001, 0.001)], 1: [(0.001, 0.001), (0.001, 0)]}
-    pathlib.Path("plain.bends").write_text("b 1 0 0\n")
-    tool("osm_to_gr", "--quiet", "bends.osm", "plain")
-    assert not pathlib.Path("plain.bends").exists() and items("plain.gr") == items("bends.gr")
-
-
-def items(path):
-    return [line for line in open(path) if not line.startswith("c ")]
+    """The places between the ends of each arc are written if that is asked for; else those of an earlier run are removed."""
+    pathlib.Path("map.osm").write_text(osm({1: (0, 0), 2: (1, 0), 3: (1, 1), 4: (2, 2)}, [([1, 2, 3, 4], ROAD)]))
+    tool("osm_to_gr", "--bends", "--quiet", "map.osm", "own")
+    bent = pathlib.Path("own.gr").read_bytes()
+    assert files.read_bends("own.bends") == {0: [(0.001, 0), (0.001, 0.001)], 1: [(0.001, 0.001), (0.001, 0)]}
+    tool("osm_to_gr", "--quiet", "map.osm", "own")
+    assert not pathlib.Path("own.bends").exists() and pathlib.Path("own.gr").read_bytes() == bent
 
 
 def test_the_example_is_made_again():
     tool("osm_to_gr", "--quiet", f"{COUNTRY}.osm.bz2", "liechtenstein")
     for name in "gr", "co":
         assert pathlib.Path(f"liechtenstein.{name}").read_bytes() == pathlib.Path(f"{COUNTRY}.{name}").read_bytes(), name
-
-
-def test_no_package_is_needed():
-    """The package of maps, and the command, are imported where neither numpy nor pyosmium is there."""
-    pathlib.Path("none").mkdir()
-    for package in "numpy", "osmium", "scipy":
-        pathlib.Path("none", f"{package}.py").write_text("raise ImportError\n")
-    pathlib.Path("two.osm").write_text(in_line(2))
-    tool("osm_to_gr", "two.osm", "two", env=os.environ | {"PYTHONPATH": "none"})
-    assert "Example:" in tool("osm_to_gr", "--help")[0]
 
 
 def test_random_maps_agree_with_the_other_converter():

@@ -9,27 +9,18 @@ import signal
 import subprocess
 import tomllib
 
-import pytest
-
-from helpers.commands import raises
+from helpers.commands import needs, raises
 from helpers.maps import COUNTRY
-from helpers.marks import needs
 from helpers.packages import PYTHON
 from helpers.running import PROGRAM, ROOT
-from helpers.science import pandas
 import chtab
-from chtab._near.found import Nearest
 from chtab._roads.reach import Isochrones
-from chtab._roads.routes import TripRoutes
 from chtab import files
 from chtab._engine.progress import Progress
-from chtab._near.found import Near
-from chtab._roads.routes import Routes
+from chtab._near.found import Near, Nearest
+from chtab._roads.routes import Routes, TripRoutes
 
-pytestmark = pytest.mark.usefixtures("program")
 FIRST = ROOT / "examples" / "first.gr"
-ERRORS = "DataFault", "FileFault", "ProgramFault", "TimedOut", "TooFar"
-VADUZ, MALBUN = (9.5209, 47.1410), (9.6079, 47.1020)
 
 
 def test_files_are_read_as_written():
@@ -73,9 +64,9 @@ def test_weights_are_whole():
 
 
 def test_what_is_told_of_the_package():
-    """`dir` has the network, `help` nothing that is no caller's, and a network says what it is."""
+    """`dir` has the network, `help` nothing that is no caller's, and a network says what it is, and what it lacks."""
     assert dir(chtab) == sorted(chtab.__all__) and all(hasattr(chtab, name) for name in chtab.__all__)
-    assert {*chtab.__all__} == {"Network", "Routes", "Near", "Spots", "ChtabError", *ERRORS, "__version__"}
+    assert {*chtab.__all__} == {*"Network Routes Near Spots ChtabError DataFault FileFault ProgramFault TimedOut TooFar __version__".split()}
     wanted = "accessibility along answers_by assign changed close components coordinates crossings customizable distances flows flows_table frame from_arrays from_frame from_geodataframe "
     wanted += "from_networkx from_sparse graph isochrones labels near nearest_nodes nearest_targets nodes nodes_to_geodataframe open plot "
     wanted += "reach roads rounding routes scale snap table to_geodataframe trip_routes trip_table trips unit"
@@ -84,7 +75,11 @@ def test_what_is_told_of_the_package():
     assert "Parameters" in text and "Raises" in text and "leave_parent" not in text, text
     with chtab.Network.open(FIRST, program=PROGRAM) as network:
         assert repr(network) == f"<chtab.Network {FIRST}: 3 nodes>" and repr(network.routes([(1, 3)])) == f"<1 routes on {FIRST}>"
+        raises(chtab.ChtabError, lambda: network.coordinates, told="no file of coordinates")
     assert repr(network).endswith("3 nodes, closed>")
+    raises(FileNotFoundError, lambda: chtab.Network.open("none.gr", program=PROGRAM), told="none.gr")
+    raises(AttributeError, lambda: chtab.nothing, told="module 'chtab' has no attribute 'nothing'")
+    raises(ImportError, lambda: __import__("chtab.nothing"))
 
 
 @needs("python3-packaging")
@@ -97,44 +92,23 @@ def test_versions_of_aiohttp_with_known_faults_are_refused():
     assert [version for version in ("3.8.3", "3.8.4", "3.8.5", "3.8.6", "3.9.0", "3.9.1", "3.9.2", "3.10.0") if version in wanted] == ["3.8.4", "3.9.2", "3.10.0"]
 
 
-def test_a_name_that_is_not_there_is_refused():
-    raises(AttributeError, lambda: chtab.nothing, told="module 'chtab' has no attribute 'nothing'")
-    raises(ImportError, lambda: __import__("chtab.nothing"))
-
-
-def public_calls():
-    """The calls that users see, each with its name: those of networks, of what these answer, and of files."""
-    for name in filter(lambda name: inspect.isfunction(getattr(files, name)), files.__all__):
-        yield f"files.{name}", getattr(files, name)
-    for kind in chtab.Network, Routes, Near, Nearest, TripRoutes, Isochrones:
-        for name in filter(lambda name: name[0] != "_", dir(kind)):
-            call = getattr(kind, name)
-            if "Returns" in (inspect.getdoc(call) or "") or kind is chtab.Network:
-                yield f"{kind.__name__}.{name}", call
-
-
-def parts_of(text):
-    """The parts of a text in the form of numpy, by their headings."""
-    return dict(re.findall(r"^(Parameters|Returns|Yields|Raises)\n-+\n(.*?)(?=\n\n\w|\Z)", text, re.MULTILINE | re.DOTALL))
-
-
 # Calls that can't fail, because what they give is there.
 NEVER_FAIL = "Network.close", "Routes.rows", "Routes.edges", "Near.owners", "Nearest.labels", "TripRoutes.to_geojson", "Isochrones.to_geojson"
-# The most lines of a text, which have at most 100 columns.
-MOST_LINES = 72
 
 
 def test_each_call_tells_what_it_takes_and_gives():
     """The text of each call that users see has its parameters by name, the shapes of arrays, what it gives, what goes wrong, and the unit of numbers."""
-    count = 0
-    for name, call in public_calls():
-        count += 1
+    calls = {f"files.{name}": getattr(files, name) for name in files.__all__ if inspect.isfunction(getattr(files, name))}
+    for kind in chtab.Network, Routes, Near, Nearest, TripRoutes, Isochrones:
+        own = {name: getattr(kind, name) for name in dir(kind) if name[0] != "_"}
+        calls |= {f"{kind.__name__}.{name}": own[name] for name in own if kind is chtab.Network or "Returns" in (inspect.getdoc(own[name]) or "")}
+    assert len(calls) > 60
+    for name, call in calls.items():
         if isinstance(call, property):
             assert call.fget.__doc__, name
             continue
-        words = [word for word in inspect.signature(call).parameters if word not in ("self", "running", "more", "style")]
-        text = inspect.getdoc(call)
-        parts = parts_of(text)
+        words, text = [word for word in inspect.signature(call).parameters if word not in ("self", "running", "more", "style")], inspect.getdoc(call)
+        parts = dict(re.findall(r"^(Parameters|Returns|Yields|Raises)\n-+\n(.*?)(?=\n\n\w|\Z)", text, re.MULTILINE | re.DOTALL))
         told = [word for line in re.findall(r"^(\w.*?) :", parts.get("Parameters", ""), re.MULTILINE) for word in line.split(", ")]
         assert told == words, (name, told, words)
         assert name in NEVER_FAIL or "Raises" in parts, name
@@ -142,20 +116,7 @@ def test_each_call_tells_what_it_takes_and_gives():
         arrays = re.findall(r"^\S.*\barray of (?!bool).*", parts.get("Parameters", "") + "\n" + parts.get("Returns", ""), re.MULTILINE)
         assert all("shape" in line or "list of" in line for line in arrays) or name.startswith("files."), (name, arrays)
         assert not name.startswith("Network.") or name == "Network.close" or re.search(r"\b(unit|metres|degrees)\b", text), name
-        assert len(text.splitlines()) <= MOST_LINES, name
-    assert count > 60, count
-
-
-def test_files_that_are_not_there_are_named():
-    with chtab.Network.open(FIRST, program=PROGRAM) as network:
-        raises(chtab.ChtabError, lambda: network.coordinates, told="no file of coordinates")
-    pathlib.Path("bad.gr").write_text("p sp 1 1\n")
-    for kind, path, more, told in (
-        (chtab.ProgramFault, "bad.gr", {}, "chtab: graph line 2: too few lines"), (ValueError, FIRST, {"workers": 0}, "from 1 to 64"), (FileNotFoundError, "none.gr", {}, "none.gr"),
-        (chtab.ChtabError, "bad.gr", {"program": "no-program"}, "can't be run"),
-    ):
-        fault = raises(kind, lambda: chtab.Network.open(path, **{"program": PROGRAM, **more}), told=told)
-        assert getattr(fault, "status", 1) == 1
+        assert len(text.splitlines()) <= 72, name
 
 
 def test_a_closed_pipe_is_silent():
@@ -182,41 +143,22 @@ def test_signs_of_life():
     os.close(master)
 
 
-def installed(name, has_program):
-    """The Python of a new environment in which pip installed the package, from a checkout that has the program or hasn't."""
-    checkout = pathlib.Path(f"checkout-{name}")
-    checkout.mkdir()
-    subprocess.run(["cp", "-r", str(ROOT / "python"), str(ROOT / "packaging"), str(ROOT / "VERSION"), str(checkout)], check=True)
-    if has_program:
-        (checkout / "crates" / "chtab" / "out").mkdir(parents=True)
-        subprocess.run(["cp", str(PROGRAM), str(checkout / "crates" / "chtab" / "out")], check=True)
-        (checkout / "out").mkdir()
-        subprocess.run(["cp", "-r", str(ROOT / "out" / "library"), str(checkout / "out")], check=True)
-    subprocess.run([PYTHON, "-m", "venv", "--system-site-packages", name], check=True)
-    words = [f"{name}/bin/pip", "install", "--no-input", "--no-index", "--quiet", "--disable-pip-version-check"]
-    words += ["--config-settings=--without-library=yes", f"./{checkout}/python"]
-    done = subprocess.run(words, capture_output=True, text=True)
-    assert done.returncode == 0, done.stderr
-    assert not (checkout / "python" / "chtab" / "bin").exists()
-    return pathlib.Path(f"{name}/bin/python").absolute()
-
-
 @needs("python3-pip", "python3-setuptools", "python3-wheel", "python3-venv")
 def test_it_installs_without_a_network():
-    """By pip: the package takes the program along where it was built, and else tells both ways to name one."""
+    """By pip, here without the program: it tells both ways to name one, and takes the one beside it. tests/install.py has a wheel with one."""
     elsewhere = {"cwd": "/", "env": {"PATH": "/usr/bin:/bin"}, "capture_output": True, "text": True}
-    text = f"import chtab; n = chtab.Network.open('{ROOT}/examples/first.gr'); print(n.distances([(1, 3)])[0], chtab.__file__)"
-    python = installed("with", True)
-    done = subprocess.run([python, "-c", text], **elsewhere)
-    assert done.stdout.startswith("9 ") and "/with/" in done.stdout, done
+    os.mkdir("checkout")
+    subprocess.run(["cp", "-r", ROOT / "python", ROOT / "packaging", ROOT / "VERSION", "checkout"], check=True)
+    subprocess.run([PYTHON, "-m", "venv", "--system-site-packages", "own"], check=True)
+    words = "--no-input", "--no-index", "--quiet", "--disable-pip-version-check", "--config-settings=--without-library=yes"
+    subprocess.run(["own/bin/pip", "install", *words, "./checkout/python"], check=True)
+    bin = pathlib.Path("own/bin").absolute()
     for tool in sorted((ROOT / "tools").glob("*.py")):
-        done = subprocess.run([python.parent / f"chtab-{tool.stem.replace('_', '-')}", "--help"], **elsewhere)
-        assert done.returncode == 0 and "usage:" in done.stdout.lower(), done
-    python = installed("without", False)
-    done = subprocess.run([python, "-c", text], **elsewhere)
+        done = subprocess.run([bin / f"chtab-{tool.stem.replace('_', '-')}", "--help"], **elsewhere)
+        assert done.returncode == 0 and "usage:" in done.stdout.lower() and "Example:" in done.stdout, done
+    done = subprocess.run([bin / "python", "-c", f"import chtab; chtab.Network.open('{FIRST}')"], **elsewhere)
     assert done.returncode and "`--program FILE`" in done.stderr and "`program=`" in done.stderr, done
-    os.symlink(PROGRAM, python.parent / "chtab")
+    os.symlink(PROGRAM, bin / "chtab")
     files.write_list("one.ss", [1])
-    words = [python.parent / "chtab-blocks", FIRST, os.path.abspath("one.ss"), os.path.abspath("one.ss"), os.path.abspath("one.csv")]
-    done = subprocess.run(words, **elsewhere)
+    done = subprocess.run([bin / "chtab-blocks", FIRST, *map(os.path.abspath, ("one.ss", "one.ss", "one.csv"))], **elsewhere)
     assert done.stdout.startswith("1 by 1 cells"), done

@@ -2,26 +2,21 @@
 
 The network that was there answers as before, and labels, places and bends are the same in both.
 """
-import concurrent.futures
 import json
-import os
 import pathlib
-import time
 import warnings
 
 import pytest
 
 from helpers.columns import least_of
 from helpers.commands import raises, temporary
-from helpers.forking import forked
 from helpers.running import PROGRAM, ROOT
 from helpers.scenarios import ARCS, after, each_way, of_roads  # noqa: F401
 from helpers.science import networkx, numpy, pandas
-from helpers.waiting import PATIENCE
 import chtab
 from chtab import files
 
-pytestmark = pytest.mark.usefixtures("program", "each_way")
+pytestmark = pytest.mark.usefixtures("each_way")
 MINUTES = {"unit": "minutes", "program": PROGRAM}
 METRES = {"unit": "metres", "program": PROGRAM}
 
@@ -77,23 +72,18 @@ def test_random_changes_answer_as_scipy(seed):
 
 
 def test_an_arc_is_the_one_that_is_meant():
-    """A row is one of several arcs between two nodes, and a pair all of them."""
+    """A row is one of several arcs between two nodes, a pair all of them, and a key one edge of a graph. An edge that leads both ways is one."""
     with of_roads() as network:
         for closed, wanted in ([0], 3), ([1], 2), ([0, 1], -1), ([("inn", "mill")], -1):
             assert after(network, [("inn", "mill")], closed=closed) == [wanted], closed
-        fault = raises(chtab.DataFault, network.changed, None, [("mill", "inn")], told="closed[0]: there is no arc ('mill', 'inn')")
-        assert fault.row == 0 and network.routes([("inn", "school")]).edges() == [[("inn", "mill"), ("mill", "school")]]
+        assert network.routes([("inn", "school")]).edges() == [[("inn", "mill"), ("mill", "school")]]
         pairs = [("inn", "mill"), ("inn", "farm"), ("inn", "school")]
         assert after(network, pairs, weights={("inn", "mill"): 9, 3: 1.25}) == [9, 1.25, 5.75] and network.distances(pairs).tolist() == [2, 4, 3.5]
-
-
-def test_edges_of_a_graph_are_meant_by_their_keys():
-    """Of two edges between two nodes the one with the key is closed, and the other one answers. An edge that leads both ways is one."""
     graph = networkx.MultiDiGraph()
     graph.add_weighted_edges_from([(1, 2, 5), (1, 2, 7), (2, 3, 1)], "length")
     with chtab.Network.from_networkx(graph, "length", folder="own", **METRES) as network:
         assert after(network, [(1, 2)], closed=[(1, 2, 0)]) == [7] and after(network, [(1, 2)], closed=[(1, 2, 1)]) == [5]
-        raises(chtab.DataFault, network.changed, None, [(1, 2, 5)], told="there is no arc (1, 2, 5)")
+        raises(chtab.DataFault, network.changed, None, [(1, 2, 5)], told="closed[0]: there is no arc (1, 2, 5)")
     with chtab.Network.open("own", program=PROGRAM) as network, network.changed({(1, 2, 0): 8.5}) as other:
         assert other.distances([(1, 3)]).tolist() == [8] and network.distances([(1, 3)]).tolist() == [6]
         assert network.routes([(1, 3), (3, 1), (2, 2)]).edges() == [[(1, 2, 0), (2, 3, 0)], None, []]
@@ -150,12 +140,11 @@ def test_new_weights_are_in_the_unit_of_those_that_were_given():
         assert other.distances([(1, 2)]).tolist() == [8] and 0.25 <= other.rounding <= 0.5
 
 
-def lines_of(network, *pairs):
-    return [each["geometry"]["coordinates"] for each in network.routes(pairs).to_geojson()["features"]]
-
-
 def test_labels_places_and_bends_stay():
     """A closed arc before others doesn't move their bends; a new road has its own; a folder keeps all of it. Neither needs the other's files."""
+    def lines_of(network, *pairs):
+        return [each["geometry"]["coordinates"] for each in network.routes(pairs).to_geojson()["features"]]
+
     bend, new = [(9.50, 47.10), (9.505, 47.13), (9.52, 47.11)], [(9.54, 47.12), (9.53, 47.15), (9.52, 47.11)]
     lines = [None, bend, None, None, [(9.48, 47.09), (9.51, 47.05), (9.54, 47.12)]]
     with temporary() as left:
@@ -174,18 +163,6 @@ def test_labels_places_and_bends_stay():
         assert lines_of(network, ("farm", "school")) == [lines[4]] and network.distances([("inn", "mill"), ("school", "mill")]).tolist() == [3, 3]
 
 
-def test_networks_of_files_change_too():
-    """Their nodes are numbers, and their arcs are named by lines and pairs; where trips end and what the unit is stays."""
-    with chtab.Network.open(ROOT / "examples" / "liechtenstein.gr", program=PROGRAM) as network:
-        graph, route = network.graph, network.routes([(2359, 910)])[0]
-        with network.changed(closed=[tuple(route.nodes[3:5])], added=[(1, 2, 5)]) as other:
-            assert other.unit == network.unit == graph.unit and other.labels.tolist() == network.labels.tolist() and other.coordinates == network.coordinates
-            found = other.routes([(2359, 910), (1, 2)])
-            assert tuple(route.nodes[3:5]) not in zip(found[0].nodes, found[0].nodes[1:]) and found[0].weight >= route.weight and found[1].weight == 5
-            assert network.routes([(2359, 910)])[0] == route
-        assert after(network, [(2359, 910)], weights=[2 * weight for weight in graph.weights]) == [2 * route.weight]
-
-
 def test_streets_of_a_map_are_closed_by_their_names():
     """All arcs of the streets with a name or a number are closed, and what is left goes on being called as it was."""
     files.write_graph("map.gr", 4, [(1, 2, 5), (2, 1, 5), (2, 3, 7), (3, 4, 1), (1, 4, 90)])
@@ -202,9 +179,6 @@ def test_streets_of_a_map_are_closed_by_their_names():
             assert raises(chtab.DataFault, network.changed, None, [0, word], told="no street of the map is called").row == 1
 
 
-NAN = float("nan")
-
-
 @pytest.mark.parametrize("change, column, row, told", [
     ({"closed": [9]}, "closed", 0, "no row 9"), ({"closed": [-1]}, "closed", 0, "no row -1"), ({"closed": [0, ("inn", "x")]}, "closed", 1, "'x'"),
     ({"closed": [0, ("x",)]}, "closed", 1, "no node has the label 'x'"), ({"closed": [0, ("inn", "school")]}, "closed", 1, "there is no arc ('inn', 'school')"),
@@ -215,7 +189,7 @@ NAN = float("nan")
     ({"closed": [0, "way/5"]}, "closed", 1, "nothing says which arcs are parts of way 5"),
     ({"closed": [("inn", "mill"), ("inn", "x"), 9]}, "closed", 1, "'x'"), ({"closed": [0, 5, ("x", "inn")]}, "closed", 1, "no row 5"),
     ({"weights": {1: 3, 0: 2.0**60}}, "weights", 1, "too large"), ({"weights": [1, 2]}, "weights", None, "there are 5 rows"), ({"weights": [1, 2, 3, 4, -5]}, "weights", 4, "below 0"),
-    ({"weights": {0: 2.5, 1: NAN}}, "weights", 1, "nan is no weight"), ({"weights": {"inn": 3}}, "weights", 0, "names no arc"),
+    ({"weights": {0: 2.5, 1: numpy.nan}}, "weights", 1, "nan is no weight"), ({"weights": {"inn": 3}}, "weights", 0, "names no arc"),
     ({"added": [("inn", "x", 3)]}, "added target", 0, "no node has the label 'x'"), ({"added": [("inn", "mill")]}, "added", None, "rows of"),
     ({"added": [("inn", "mill", -1)]}, "added weight", 0, "below 0"),
 ])
@@ -227,71 +201,26 @@ def test_what_is_refused_is_named(change, column, row, told):
         assert left() == own and network.distances([("inn", "mill")]).tolist() == [2.0]
 
 
-def test_files_that_were_written_anew_are_refused():
-    """Neither arcs nor places of other files go into a changed network."""
-    files_of = {"own.gr": "p sp 2 1\na 1 2 5\n", "own.co": "p aux sp co 2\nv 1 9500000 47100000\nv 2 9520000 47110000\n"}
-    for name, old, new in ("own.gr", "2 5", "2 7"), ("own.co", "95", "97"):
-        for each, text in files_of.items():
-            pathlib.Path(each).write_text(text)
-        with chtab.Network.open("own.gr", program=PROGRAM) as network, temporary() as left:
-            time.sleep(0.02)
-            pathlib.Path(name).write_text(files_of[name].replace(old, new, 1))
-            raises(chtab.ProgramFault, network.changed, {0: 3}, told=f"{name} has changed since it was opened")
-            assert left() == []
-
-
-def test_a_fork_in_the_middle_of_a_change():
-    """Processes that are forked while a network is changed hold up neither the change nor its end, and leave its files alone. Both then answer, also
-    threads that ask at once."""
-    with temporary() as left, of_roads() as network, concurrent.futures.ThreadPoolExecutor(4) as threads:
-        for _ in range(4):
-            change, children, latest = threads.submit(network.changed, None, [0]), [], time.monotonic() + 5
-            while not change.done() and time.monotonic() < latest:
-                children.append(os.fork())
-                if not children[-1]:
-                    time.sleep(1)
-                    os._exit(0)
-                time.sleep(0.02)
-            with change.result(PATIENCE) as other:
-                assert other.distances([("inn", "mill")]).tolist() == [3.0]
-                assert forked(lambda: [each.distances([("inn", "mill")]).tolist() for each in (other, network)] == [[3.0], [2.0]])
-                assert list(threads.map(lambda each: each.distances([("inn", "mill")])[0], [network, other] * 50)) == [2.0, 3.0] * 50
-            assert len(left()) == 1
-            for child in children:
-                os.waitpid(child, 0)
-
-
-@pytest.mark.parametrize("each_way", ["built"], indirect=True)
-def test_a_change_that_fails_leaves_nothing():
-    """A program that fails while it builds leaves no files, and the old network answers on."""
-    with temporary() as left, of_roads(workers=2) as network:
-        own, program = left(), pathlib.Path("broken")
-        program.write_text(f"#!/bin/sh\n[ \"$1\" = save ] && {{ echo 'chtab: out of memory' >&2; exit 3; }}\nexec {PROGRAM} \"$@\"\n")
-        program.chmod(0o755)
-        object.__setattr__(network._opened.setting, "program", str(program.absolute()))
-        assert raises(chtab.ProgramFault, network.changed, None, [0], told="out of memory").status == 3
-        assert left() == own and network.distances([("inn", "mill")]).tolist() == [2.0]
-
-
 def test_columns_of_frames_go_by_their_index():
     """A Series is put in the order of the rows that its index has, and one with other labels is refused, because nothing says which rows these are."""
     minutes, is_closed = pandas.Series([5.0, 1.0, 4.0, 3.0, 2.0]), pandas.Series([True, False, False, True, False])
     more = pandas.DataFrame({"source": ["school"], "target": ["inn"], "weight": [0.5]})
     with of_roads() as network:
-        for column in minutes, minutes.sort_values(), minutes.to_list(), minutes.to_numpy(), minutes.set_axis([0.0, 1.0, 2.0, 3.0, 4.0]):
+        for column in minutes.sort_values(), minutes.to_list(), minutes.set_axis([0.0, 1.0, 2.0, 3.0, 4.0]):
             assert after(network, [("inn", "mill"), ("mill", "school"), ("inn", "farm")], weights=column) == [1, 4, 3]
-        for mask in is_closed, is_closed.sort_values(), is_closed.to_numpy(), is_closed.astype("boolean"), is_closed.astype(object).sort_values():
+        for mask in is_closed.sort_values(), is_closed.to_numpy(), is_closed.astype("boolean"), is_closed.astype(object).sort_values():
             assert after(network, [("inn", "mill"), ("inn", "farm")], closed=mask) == [3, -1]
         assert after(network, [("inn", "mill"), ("school", "inn")], weights=minutes.iloc[[1]], added=more) == [1, 0.5]
-        raises(chtab.DataFault, network.changed, None, None, more.rename(columns={"weight": "minutes"}), told="no column 'weight'")
-        for index, place, told in (
-            (list("abcde"), 0, "'a' names no arc"), ([1, 2, 3, 4, 5], 4, "there is no row 5"), ([0, 1, 2, 3, 3], 4, "the label 3 is in the index already"),
+        for index, told in (
+            (list("abcde"), "weights[0]: 'a' names no arc"), ([1, 2, 3, 4, 5], "weights[4]: there is no row 5"),
+            ([0, 1, 2, 3, 3], "weights[4]: the label 3 is in the index already"),
         ):
-            assert raises(chtab.DataFault, network.changed, minutes.set_axis(index), told=f"weights[{place}]: {told}").row == place
-        raises(chtab.DataFault, network.changed, None, is_closed.iloc[:3], told="closed has the shape (3,)")
+            raises(chtab.DataFault, network.changed, minutes.set_axis(index), told=told)
         # Truths as files have them are no rows.
         for flags in is_closed.astype(int), is_closed.astype(int).to_numpy(), [1, 0, 0, 1, 0]:
             raises(chtab.DataFault, network.changed, None, flags, told="closed has 0 or 1 for each row")
+        raises(chtab.DataFault, network.changed, None, is_closed.iloc[:3], told="closed has the shape (3,)")
+        raises(chtab.DataFault, network.changed, None, None, more.rename(columns={"weight": "minutes"}), told="no column 'weight'")
 
 
 ROAD_PARTS = pandas.MultiIndex.from_tuples([("a", 1), ("a", 2), ("b", 1), ("b", 2), ("c", 1)], names=["road", "part"])
@@ -343,14 +272,6 @@ def test_rows_whose_labels_say_too_little_are_refused():
     path.write_text(json.dumps({name: value for name, value in json.loads(path.read_text()).items() if name in ("labels", "scale", "rounding", "graph", "unit")}))
     with chtab.Network.open("own", program=PROGRAM) as network:
         raises(chtab.DataFault, network.changed, frame["t"].set_axis([1, 2, 3, 4, 5]).iloc[[1]], told="nothing says which row is called 2")
-    for name in "bt":
-        plain = {key: frame[key].reset_index(drop=True) for key in "abt"}
-        plain[name] = plain[name].sort_values()
-        with chtab.Network.from_arrays(*plain.values(), **MINUTES) as network:
-            ends, weights = [network.labels[column - 1].tolist() for column in network.graph[1:3]], network.graph.weights / 60_000
-            assert (*ends, weights.tolist()) == tuple(map(list, ARCS))
-        plain[name] = plain[name].set_axis([7, 8, 9, 10, 11])
-        raises(chtab.DataFault, chtab.Network.from_arrays, *plain.values(), told="`to_numpy()`")
 
 
 @pytest.mark.parametrize("kind", [networkx.MultiDiGraph, networkx.MultiGraph])

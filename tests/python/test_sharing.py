@@ -1,12 +1,15 @@
 """Tests that a network may be shared: by threads, each with a handle of its own, by processes of each way to start them, and by pickle; that what breaks
-a question off leaves no answer for the next one; and that what is closed, forked or dropped while others ask harms none of them.
+a question off leaves no answer for the next one; that what is closed, forked or dropped while others ask harms none of them; and that the files of arcs
+are written once, when they are needed.
 
 Answers are compared with scipy's own search.
 """
 import concurrent.futures
 import contextlib
 import ctypes
+import functools
 import gc
+import itertools
 import multiprocessing
 import os
 import pickle
@@ -18,40 +21,35 @@ import time
 
 import pytest
 
-from helpers import ways
 from helpers.columns import arcs_of, least_of
-from helpers.commands import raises
+from helpers.commands import raises, temporary
 from helpers.forking import descriptors, forked
 from helpers.handles import FIRST, FIRST_SAVED, GRAPH, handle_of, of_country, of_first, route
 from helpers.in_process import growth, make
 from helpers.nearness import dense
 from helpers.packages import PYTHON
 from helpers.running import PROGRAM, ROOT
-from helpers.science import numpy
+from helpers.science import numpy, pandas
 from helpers.waiting import PATIENCE
 import chtab
 from chtab import files
 from chtab._files import node_labels
 
-pytestmark = pytest.mark.usefixtures("program")
 # Answers of each process, in parts of so many tables; and how many questions are broken off, and how many are answered, at least.
 PARTS, PART, ENOUGH = 10, 50, 60
-WAYS = "fork", "spawn", "forkserver"
 # How many kilobytes memory may grow once things were made and dropped for a while. Networks in a ring of references wait for Python's
 # collector, and took 5,248 then. Thirty networks that are not freed take four times this limit.
 MOST_GROWTH = 8_192
-# The network that forked processes find, and forty of its nodes with the distances between them.
-NETWORK = KNOWN = None
+# The network that forked processes find.
+NETWORK = None
 
 
+@functools.cache
 def known():
     """Forty nodes, from 0 on, and the distances between them by scipy."""
-    global KNOWN
-    if KNOWN is None:
-        graph = files.read_graph(GRAPH)
-        nodes = numpy.random.default_rng(7).choice(graph.nodes, 40, replace=False)
-        KNOWN = nodes, least_of(graph.nodes, arcs_of(graph), nodes)[:, nodes]
-    return KNOWN
+    graph = files.read_graph(GRAPH)
+    nodes = numpy.random.default_rng(7).choice(graph.nodes, 40, replace=False)
+    return nodes, least_of(graph.nodes, arcs_of(graph), nodes)[:, nodes]
 
 
 def wrong_answers(network, seed, count=PART):
@@ -88,12 +86,15 @@ def network(request):
         yield NETWORK
 
 
-@pytest.mark.parametrize("way", WAYS)
+@pytest.mark.parametrize("way", ["fork", "spawn", "forkserver"])
 def test_pools_and_executors_ask(network, way):
     """Those that unpickle it, and those that have it by a fork after it was asked, while threads of this process ask too; these leave no descriptor."""
     context, seeds, held = multiprocessing.get_context(way), range(PARTS), descriptors()
     with concurrent.futures.ThreadPoolExecutor(8) as threads:
         assert sum(threads.map(wrong_answers, [network] * PARTS, seeds, timeout=PATIENCE)) == 0
+        # Each thread has a handle, because a handle answers one question at a time.
+        met = threading.Barrier(8)
+        assert len({*threads.map(lambda _: (met.wait(PATIENCE), network._engine.handle())[1], range(8))}) == 8
         gc.collect()
         assert descriptors() == held
         with context.Pool(2) as pool, concurrent.futures.ProcessPoolExecutor(2, context) as executor:
@@ -127,8 +128,7 @@ def test_processes_are_forked_while_threads_ask(network):
 
 def test_a_process_is_forked_while_routes_are_computed(monkeypatch):
     """A forked process waits for nothing that a thread of its parent computes at that moment, such as the list of routes."""
-    kind = node_labels.Numbers
-    parent, computing, over, of = os.getpid(), threading.Event(), threading.Event(), kind.of
+    parent, computing, over, of = os.getpid(), threading.Event(), threading.Event(), node_labels.Numbers.of
 
     def of_slowly(self, nodes):
         if os.getpid() == parent:
@@ -136,215 +136,177 @@ def test_a_process_is_forked_while_routes_are_computed(monkeypatch):
             over.wait(PATIENCE)
         return of(self, nodes)
 
-    with of_country() as network, concurrent.futures.ThreadPoolExecutor(1) as threads:
-        known()
-        monkeypatch.setattr(kind, "of", of_slowly)
-        routes = network.routes([(1, 2)])
+    monkeypatch.setattr(node_labels.Numbers, "of", of_slowly)
+    with of_first() as network, concurrent.futures.ThreadPoolExecutor(1) as threads:
+        routes = network.routes([(1, 3)])
         asking = threads.submit(lambda: routes[0].weight)
-        try:
-            assert computing.wait(PATIENCE)
-            assert forked(lambda: wrong_answers(network, 0) == 0 and routes[0].weight >= 0, 60)
-        finally:
-            over.set()
-        assert asking.result() == routes[0].weight
+        is_right = computing.wait(PATIENCE) and forked(lambda: routes[0].weight == 9 == network.distances([(1, 3)])[0], 60)
+        over.set()
+        assert is_right and asking.result() == 9
 
 
 def test_a_fork_within_a_question_takes_no_handle():
     """A process that is forked while near rows come ends the question, and its next one by handles of its own."""
     with of_first() as network:
-        child = []
+        children, parent = [], os.getpid()
 
         def decay(weights):
-            if not child:
-                child.append(os.fork())
+            children.append(os.fork() if not children else 0)
             return weights * 0.5
 
         found = network.accessibility(1, 9, decay=decay).tolist()
-        if not child[0]:
-            is_right = found == [6.5, 2.5, 0.0] == network.accessibility(1, 9, decay=lambda weights: weights * 0.5).tolist()
-            is_own = network._engine.begun == 1 and [handle in network._engine.handles for handle in network._engine.spare] == [True]
-            os._exit(0 if is_right and is_own else 1)
-        assert os.waitpid(child[0], 0)[1] == 0 and found == [6.5, 2.5, 0.0] and len(network._engine.spare) == 1, found
+        again = network.accessibility(1, 9, decay=lambda weights: weights * 0.5).tolist()
+        is_right = found == [6.5, 2.5, 0.0] == again and network._engine.begun == 1 == len(network._engine.spare)
+        if os.getpid() != parent:
+            os._exit(0 if is_right and network._engine.spare[0] in network._engine.handles else 1)
+        assert os.waitpid(children[0], 0)[1] == 0 and is_right, (found, again)
 
 
-@pytest.mark.parametrize("first", ["parent", "child", "killed"])
-def test_who_is_left_asks_on(first):
-    """The child when its parent has closed, and the parent when its child has, or was killed in the middle of a question."""
+def test_who_is_left_asks_on():
+    """A child when its parent has closed the network."""
     def is_right():
         return network.distances([(1, 3)]).tolist() == [9] == network.near([1], [3]).weights.tolist()
 
     with of_first() as network:
-        (closed, tell), child = os.pipe(), os.fork() if is_right() else None
+        assert is_right()
+        (closed, tell), child = os.pipe(), os.fork()
         if not child:
-            while first == "killed":
-                network.table(range(1, 4), range(1, 4))
-            if first == "child":
-                network.close()
-            os._exit(0 if first == "child" or os.read(closed, 1) and is_right() else 1)
-        if first == "parent":
-            network.close()
-            os.write(tell, b".")
-        elif first == "killed":
-            time.sleep(0.1)
-            os.kill(child, signal.SIGKILL)
-        assert os.waitpid(child, 0)[1] == (signal.SIGKILL if first == "killed" else 0)
-        assert first == "parent" or is_right()
+            os._exit(0 if os.read(closed, 1) and forked(is_right) else 1)
+        network.close()
+        os.write(tell, b".")
+        assert os.waitpid(child, 0)[1] == 0
 
 
-def test_each_thread_has_a_handle():
-    """As many as there are threads that ask, the first of which takes the one that opened the network; they go with their threads."""
-    with of_country() as network:
-        engine, met = network._engine, threading.Barrier(4)
-        assert wrong_answers(network, 0, 1) == 0 and engine.handle() is engine.first
-
-        def work(seed):
-            met.wait(PATIENCE)
-            found = wrong_answers(network, seed)
-            met.wait(PATIENCE)
-            return found, engine.handle()
-
-        with concurrent.futures.ThreadPoolExecutor(4) as threads:
-            found = list(threads.map(work, range(4), timeout=PATIENCE))
-            assert sum(wrong for wrong, _ in found) == 0 and len({id(handle) for _, handle in found}) == 4
-            # Near rows take handles of their own: as many as ask at a time, which the next questions take.
-            assert 1 <= len(engine.spare) <= 5 and len(engine.handles) == 5 + len(engine.spare)
-            del found
-        gc.collect()
-        assert len(engine.handles) == 1 + len(engine.spare) and engine.begun == 1, (len(engine.handles), engine.begun)
-    with of_country() as other, concurrent.futures.ThreadPoolExecutor(1) as threads:
-        assert threads.submit(lambda: other._engine.handle() is other._engine.first).result() and len(other._engine.handles) == 1
+def of_squares(**more):
+    """Streets around squares, where many routes are equal: names and places of nodes, bends, a unit, and names of rows."""
+    at = numpy.arange(100).reshape(10, 10)
+    tails, heads = numpy.append(at[:, :-1], at[:-1]), numpy.append(at[:, 1:], at[1:])
+    names, (y, x) = numpy.array([f"n{node:02}" for node in range(100)]), numpy.divmod(numpy.arange(100), 10) / numpy.array([[90], [110]]) + [[47], [9]]
+    lines = [[(x[tail], y[tail]), (x[tail] + 0.0123456, y[tail] - 0.1 / 3), (x[head], y[head])] if tail % 3 else None for tail, head in zip(tails, heads)]
+    frame = pandas.DataFrame({"source": names[tails], "target": names[heads], "weight": 0.25, "line": lines}, [f"row {row}" for row in range(180)])
+    more = {"unit": "minutes", "nodes": names, "x": x, "y": y, "geometry": "line", "both_ways": True, "program": PROGRAM, "library": make(), **more}
+    return chtab.Network.from_frame(frame, **more)
 
 
-def ask_until(ends, asks):
-    """Four threads ask until a call of theirs ends it, or the network is closed; what they found wrong."""
-    wrong = []
-
-    def work(place):
-        try:
-            while not ends():
-                if not asks(place):
-                    wrong.append(place)
-        except chtab.ChtabError as fault:
-            if str(fault) != "the network is closed":
-                wrong.append(fault)
-
-    threads = [threading.Thread(target=work, args=(place,)) for place in range(4)]
-    for thread in threads:
-        thread.start()
-    yield
-    for thread in threads:
-        thread.join(PATIENCE)
-    assert not wrong and not any(thread.is_alive() for thread in threads), wrong
+def told_by(network):
+    """The texts and values of a network in another process, and which of equal routes it takes."""
+    starts, ends, spots = numpy.repeat(network.labels, 100), numpy.tile(network.labels, 100), network.snap([9.002, 9.05], [47.001, 47.07], None)
+    routes = network.routes(starts[::31], ends[::31])
+    parts = network.labels, network.distances(starts, ends), network.flows(starts, ends, [1] * 10_000), network.trip_table(spots, spots)
+    rows = [None if each is None else each.tolist() for each in routes.rows()]
+    facts = network.graph, network.coordinates, network.unit, network.scale, network.rounding, network.nodes, parts[2].index.tolist()
+    return [[part.tolist() for part in parts], facts, routes[:], rows, routes.to_geojson()["features"]]
 
 
-asking_until = contextlib.contextmanager(ask_until)
+@pytest.mark.parametrize("way", ["made", "changed", "customized", "opened"])
+def test_files_are_written_once_when_they_are_needed(way):
+    """Without a folder none is written for questions, changes and what a network says of itself. Pickle and forks, by several threads at once, find the
+    same files, which say the same; they go with the network."""
+    with temporary() as left, contextlib.ExitStack() as kept:
+        network = base = kept.enter_context(of_squares(**{"folder": "own"} if way == "opened" else {}))
+        if way == "customized":
+            base.customizable()
+        if way != "made":
+            network = kept.enter_context(base.changed(pandas.Series([0.75, 5], ["row 7", "row 90"]), [3]))
+        told = told_by(network)
+        with network.changed(closed=[100], added=[("n00", "n99", 0.5)]) as other:
+            assert other.distances([("n00", "n99")]) == 0.5 and told_by(network) == told
+        assert repr(network) == f"<chtab.Network of {len(network.graph.tails)} arcs: 100 nodes>" and left() == []
+        with concurrent.futures.ThreadPoolExecutor(8) as threads:
+            asking = [threads.submit(forked, lambda: told_by(network) == told and forked(lambda: told_by(network) == told)) for _ in range(4)]
+            texts = [*threads.map(pickle.dumps, [network] * 8), pickle.dumps(network.routes([("n00", "n99")]))]
+            assert all(each.result(PATIENCE) for each in asking) and len({*texts}) == 2
+        written = left()
+        assert len(written) == 1 + (way in ("changed", "customized")) and told_by(pickle.loads(texts[0])) == told
+        assert pickle.loads(texts[-1])[:] == network.routes([("n00", "n99")])[:] and bool(network._opened.order) == (way == "customized")
+        assert forked(lambda: told_by(network) == told) and left() == written
+        kept.close()
+        assert left() == []
 
 
 def test_threads_ask_while_it_is_closed():
-    """Each call has its answer, or the error that the network is closed; and so by threads that share one handle, also while none closes it."""
-    for _ in range(20):
-        network = of_country()
-        with asking_until(lambda: False, lambda place: wrong_answers(network, place, 2) == 0):
+    """Each call has its answer, or the error that the network is closed."""
+    def asks(network, seed):
+        try:
+            while True:
+                assert wrong_answers(network, seed, 2) == 0
+        except chtab.ChtabError as fault:
+            assert str(fault) == "the network is closed", fault
+
+    with concurrent.futures.ThreadPoolExecutor(4) as threads:
+        for _ in range(20):
+            network = of_country()
+            asking = [threads.submit(asks, network, seed) for seed in range(4)]
             time.sleep(0.05)
             network.close()
-    handle, draw = handle_of(GRAPH, ways.saved_for(GRAPH)), numpy.random.default_rng(2)
-    asked = [draw.integers(0, handle.nodes(), (2, 30)).astype(numpy.uint32) for _ in range(4)]
-
-    def found(place):
-        own = asked[place]
-        routes = [route(handle, *map(int, pair))[1].tolist() for pair in own.T]
-        return handle.table(*own).tolist(), handle.distances(*own).tolist() == handle.table(*own).diagonal().tolist(), routes
-
-    owed, until = list(map(found, range(4))), time.monotonic() + 1
-    with asking_until(lambda: time.monotonic() > until, lambda place: found(place) == owed[place]):
-        pass
-    with asking_until(lambda: False, lambda place: found(place) == owed[place]):
-        time.sleep(0.3)
-        handle.close()
+            assert [each.result(PATIENCE) for each in asking] == [None] * 4
 
 
 class Stopped(BaseException):
     """A thread is ended from outside."""
 
 
-def interrupted(network, send):
-    """Asks again and again while something breaks questions off, until enough of them were broken off, and enough had an answer: how many of each.
-    No answer is wrong."""
-    draw, (nodes, wanted), broken, answered = random.Random("broken off"), known(), 0, 0
-    latest = 0.2
+def interrupted(network, break_off, *words):
+    """Asks again and again while a call breaks questions off, until enough of them were broken off, and enough had an answer. No answer is wrong."""
+    draw, (nodes, wanted), broken, answered, latest = random.Random("broken off"), known(), 0, 0, 0.2
     while min(broken, answered) < ENOUGH:
         before, late = answered, draw.choice([0.002, latest])
         try:
-            sender = send(draw.uniform(0, late))
+            sender = threading.Timer(draw.uniform(0, late), break_off, words)
+            sender.start()
             for _ in range(10_000):
                 row, column = draw.randrange(40), draw.randrange(40)
                 assert network.table(nodes[row] + 1, nodes[column] + 1)[0, 0] == wanted[row, column]
                 answered += 1
-            if sender is not None:
-                # What is sent comes before the next round.
-                sender.join()
+            # What is sent comes before the next round.
+            sender.join()
             time.sleep(late)
         except (KeyboardInterrupt, Stopped):
             broken += 1
             # On a machine with other work an answer may take longer than this.
             if answered == before and late == latest:
                 latest *= 1.5
-    return broken, answered
 
 
-def test_what_is_broken_off_leaves_no_answer():
-    """Ctrl-C at any time, and threads that are ended from outside: the next question gets its own answer, and none hangs."""
-    def alarm(number, frame):
-        raise KeyboardInterrupt
+@pytest.mark.parametrize("is_signal", [True, False])
+def test_what_is_broken_off_leaves_no_answer(is_signal):
+    """By Ctrl-C at any time, or where a thread is ended from outside: the next question gets its own answer, and none hangs."""
+    def in_thread():
+        interrupted(network, ctypes.pythonapi.PyThreadState_SetAsyncExc, ctypes.c_ulong(threading.get_ident()), ctypes.py_object(Stopped))
 
-    def end_thread(seconds):
-        words = ctypes.c_ulong(threading.get_ident()), ctypes.py_object(Stopped)
-        sender = threading.Timer(seconds, ctypes.pythonapi.PyThreadState_SetAsyncExc, words)
-        sender.start()
-        return sender
-
-    def wake(seconds):
-        # Once a round, so that none comes between two of them.
-        signal.setitimer(signal.ITIMER_REAL, max(seconds, 1e-5))
-
-    with of_country() as network:
-        held, before = descriptors(), signal.signal(signal.SIGALRM, alarm)
-        try:
-            assert min(interrupted(network, wake)) >= ENOUGH
-        finally:
-            signal.setitimer(signal.ITIMER_REAL, 0)
-            signal.signal(signal.SIGALRM, before)
-        with concurrent.futures.ThreadPoolExecutor(1) as threads:
-            assert min(threads.submit(interrupted, network, end_thread).result(PATIENCE)) >= ENOUGH
+    with of_country() as network, concurrent.futures.ThreadPoolExecutor(1) as threads:
+        held = descriptors()
+        if is_signal:
+            interrupted(network, signal.pthread_kill, threading.get_ident(), signal.SIGINT)
+        else:
+            threads.submit(in_thread).result(PATIENCE)
         time.sleep(0.5)
         assert wrong_answers(network, 5) == 0
         gc.collect()
         assert descriptors() <= held + 60, (descriptors(), held)
 
 
-def test_a_closed_handle_answers_nothing():
-    one, closed = numpy.array([0], numpy.uint32), type(handle_of())(handle_of().calls)
-    handle = handle_of()
+def test_what_is_closed_answers_nothing():
+    """A handle that was never open or is closed, also twice, while another one on the same network answers on; and each call of a network."""
+    one, closed, handle = numpy.array([0], numpy.uint32), type(handle_of())(handle_of().calls), handle_of()
     other = handle.share()
     handle.close()
     handle.close()
-    assert other.distances(one, one).tolist() == [0] and route(other, 0, 2)[0] == 9
-    for each in closed, handle:
-        for call, words in {
-            "distances": (one, one), "table": (one, one), "routes_with_lines": (one, one, 3), "nodes": (), "share": (), "save": (), "keep_places": (one,), "sweep": (),
-            "near_rows": (one, 1), "rows_to": (one, one),
-        }.items():
-            raises(chtab.ChtabError, getattr(each, call), *words, told="the network is closed")
+    for each, (name, *words) in itertools.product((closed, handle), (
+        ("distances", one, one), ("table", one, one), ("routes_with_lines", one, one, 3), ("nodes",), ("share",), ("save",), ("keep_places", one),
+        ("sweep",), ("near_rows", one, 1), ("rows_to", one, one),
+    )):
+        raises(chtab.ChtabError, getattr(each, name), *words, told="the network is closed")
         raises(chtab.ChtabError, type(other)(other.calls).open_like, FIRST.read_bytes(), each, 5, told="the network is closed")
     raises(chtab.ProgramFault, other.open, b"", b"", told="answered 3")
+    assert other.distances(one, one).tolist() == [0] and route(other, 0, 2)[0] == 9
     with of_first() as network:
         assert network.distances([(1, 3)]).tolist() == [9]
-    network.close()
-    for call, words in {
-        "distances": ([(1, 3)],), "table": ([1], [3]), "routes": ([(1, 3)],), "near": (None, [3]), "accessibility": (1, 5), "nearest_targets": ([1, 2], [3]),
-    }.items():
-        raises(chtab.ChtabError, getattr(network, call), *words, told="the network is closed")
-    raises(chtab.ChtabError, network._engine.load, told="the network is closed")
+    for name, *words in (
+        ("distances", [(1, 3)]), ("table", [1], [3]), ("routes", [(1, 3)]), ("near", None, [3]), ("accessibility", 1, 5),
+        ("nearest_targets", [1, 2], [3]),
+    ):
+        raises(chtab.ChtabError, getattr(network, name), *words, told="the network is closed")
 
 
 def test_what_is_pickled():
@@ -357,24 +319,22 @@ def test_what_is_pickled():
         raises(TypeError, pickle.dumps, network._engine.first, told="neither copied nor pickled")
 
 
-ENDS = {
+@pytest.mark.parametrize("lines, wanted", [
     # A child that drops the network, and one that closes it, leave it to the parent.
-    "child = os.fork()\nif not child:\n    del network\n    sys.exit(0)\nos.waitpid(child, 0); print(network.table([1], [1]).tolist())": "[[0]]\n",
-    "child = os.fork()\nif not child:\n    network.close()\n    sys.exit(0)\nos.waitpid(child, 0); print(network.table([1], [1]).tolist())": "[[0]]\n",
+    ("if not os.fork(): del network; sys.exit(0)\nos.wait(); print(network.distances([(1, 3)])[0])", "10\n"),
+    ("if not os.fork(): network.close(); sys.exit(0)\nos.wait(); print(network.distances([(1, 3)])[0])", "10\n"),
     # Threads that are in a call when the interpreter ends neither crash nor hang it.
-    "def work():\n    while True: network.table(range(1, 1000), range(1, 1000))\nfor _ in range(3): threading.Thread(target=work, daemon=True).start()\n"
-    "time.sleep(0.5); print('ends')": "ends\n",
-}
-
-
-@pytest.mark.parametrize("lines", ENDS)
-def test_the_end_of_a_process_harms_none(lines):
+    ("def work():\n    while True: network.table(range(1, 1000), range(1, 1000))\n"
+     "for _ in range(3): threading.Thread(target=work, daemon=True).start()\ntime.sleep(0.5); print('ends')", "ends\n"),
+])
+def test_the_end_of_a_process_harms_none(lines, wanted):
+    """Its temporary files go with the interpreter, and a process that was forked leaves them alone."""
     text = "import os, sys, threading, time; sys.path.insert(0, sys.argv[1]); import chtab\n"
-    text += f"network = chtab.Network.open(sys.argv[2], saved=sys.argv[3], program=sys.argv[4], library=sys.argv[5])\n{lines}\n"
+    text += f"network = chtab.Network.from_arrays(range(1, 1000), range(2, 1001), [5] * 999, program=sys.argv[2], library=sys.argv[3])\n{lines}\n"
     for _ in range(3):
-        words = [PYTHON, "-c", text, ROOT / "python", GRAPH, ways.saved_for(GRAPH), PROGRAM, make()]
-        done = subprocess.run(words, capture_output=True, text=True, timeout=PATIENCE)
-        assert (done.returncode, done.stdout, done.stderr) == (0, ENDS[lines], ""), done
+        with temporary() as left:
+            done = subprocess.run([PYTHON, "-c", text, ROOT / "python", PROGRAM, make()], capture_output=True, text=True, timeout=PATIENCE)
+            assert (done.returncode, done.stdout, done.stderr, left()) == (0, wanted, "", []), done
 
 
 def test_what_is_dropped_is_freed():

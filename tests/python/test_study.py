@@ -4,7 +4,6 @@ of pandas and geopandas, pictures, and what errors report.
 Expected values are those of scipy, numpy and pandas, or are counted by hand.
 """
 import datetime
-import fractions
 import pathlib
 import warnings
 
@@ -12,19 +11,13 @@ import pytest
 
 from helpers import minutes
 from helpers.columns import flows_owed
-from helpers.commands import raises
-from helpers.marks import needs
+from helpers.commands import needs, raises
 from helpers.minutes import of_minutes
 from helpers.running import PROGRAM
 from helpers.science import networkx, numpy, pandas, scipy
 import chtab
 
-pytestmark = pytest.mark.usefixtures("program")
 NAN = float("nan")
-
-
-# A study of one town and three scenarios of it.
-
 # Crossings of a side, degrees between them, and how far numbers may be apart because each part of a road is rounded to milliseconds.
 SIDE, APART, CLOSE = 7, 0.01, {"rtol": 0, "atol": 1e-3}
 
@@ -46,17 +39,13 @@ def town():
 
 
 def owed_to(streets, ends, places):
-    """By scipy, on streets that are cut at the places: the minutes between all crossings and places, and the crossings before each on the way."""
+    """By scipy, on streets that are cut at the places: the minutes between all crossings and places."""
     nodes, cut = SIDE * SIDE, []
-    for street, (tail, head) in enumerate(ends):
-        here = places[places.street == street].sort_values("share")
-        stops, shares = [tail, *(nodes + here.index), head], [0, *here.share, 1]
-        for way in streets[(streets["from"] == tail) & (streets["to"] == head)].minutes:
-            cut += [(a, b, way * (more - share)) for a, b, share, more in zip(stops, stops[1:], shares, shares[1:])]
-        for way in streets[(streets["from"] == head) & (streets["to"] == tail)].minutes:
-            cut += [(b, a, way * (more - share)) for a, b, share, more in zip(stops, stops[1:], shares, shares[1:])]
-    pairs = set(map(tuple, ends.tolist()))
-    cut += [arc for arc in streets.itertuples(index=False, name=None) if arc[:2] not in pairs and arc[1::-1] not in pairs]
+    for row, tail, head, weight in streets.itertuples(name=None):
+        is_back, here = row >= len(ends), places[places.street == (row % len(ends) if row < 2 * len(ends) else -1)]
+        shares = (1 - here.share if is_back else here.share).sort_values()
+        stops, parts = [tail, *(nodes + shares.index), head], numpy.diff([0, *shares, 1])
+        cut += zip(stops, stops[1:], weight * parts)
     tails, heads, weights = zip(*cut)
     return scipy.sparse.csgraph.dijkstra(scipy.sparse.csr_array((weights, (tails, heads)), (nodes + len(places),) * 2))
 
@@ -102,8 +91,8 @@ def test_a_study_of_three_scenarios():
 
 
 def test_answers_are_in_the_unit_of_the_weights():
-    """Every call takes limits and gives answers in minutes, and a limit lets through what is just as far."""
-    jobs = {"mill": 10, "farm": 1}
+    """Every call takes limits and gives answers in minutes. A limit lets through what is just as far, and not what is past it by the last bit."""
+    jobs, draw = {"mill": 10, "farm": 1}, numpy.random.default_rng(7)
     with of_minutes() as network:
         assert (network.unit, network.scale, network.rounding, network.graph.unit) == ("minutes", 60_000, 0.0, "milliseconds")
         assert network.distances([("farm", "mill"), ("mill", "mill")]).tolist() == [3.75, 0.0]
@@ -115,6 +104,11 @@ def test_answers_are_in_the_unit_of_the_weights():
         assert network.nearest_targets(["inn"], ["mill", "farm"], count=2).weights.tolist() == [[1.25, 2.5]]
         for values, within, decay, wanted in (jobs, [1.25, 2.5], None, [[1, 11]]), ({"mill": 10}, 5, "linear", [5]), ({"mill": 10}, 5, lambda weights: weights, [25]):
             assert network.accessibility(values, within, sources=["inn"], decay=decay).tolist() == wanted
+    weights = numpy.round(draw.random(60) * draw.choice([1, 10, 1_000], 60), 3)
+    with chtab.Network.from_arrays(range(60), range(1, 61), weights, unit="minutes", program=PROGRAM) as network:
+        for target, weight in enumerate(network.distances([(0, place) for place in range(1, 61)]).tolist(), 1):
+            assert network.table([0], [target], within=weight).tolist() == [[weight]] and abs(weight - sum(weights[:target])) < 1e-6
+            assert network.table([0], [target], within=numpy.nextafter(weight, -1), missing=-1).tolist() == [[-1]], weight
 
 
 def test_units_are_known_or_told():
@@ -130,25 +124,13 @@ def test_units_are_known_or_told():
         with chtab.Network.open(path, program=PROGRAM, **more) as network:
             found = network.distances([(1, 2)])[0]
             assert found == wanted and isinstance(found.item(), type(wanted)), (path, more, found)
-    for path, more, told in (
-        ("plain.gr", {"unit": "minutes"}, "nothing says how many of the graph's weights make one of 'minutes'"),
-        ("timed.gr", {"unit": "metres"}, "'metres' needs `scale`"), ("timed.gr", {"unit": 60}, "unit is a name"),
+    for path, unit, told in (
+        ("plain.gr", "minutes", "nothing says how many of the graph's weights make one of 'minutes'"), ("timed.gr", 60, "unit is a name"),
+        ("timed.gr", "metres", "'metres' needs `scale`"),
     ):
-        raises(chtab.DataFault, lambda: chtab.Network.open(path, program=PROGRAM, **more), told=told)
+        raises(chtab.DataFault, lambda: chtab.Network.open(path, unit=unit, program=PROGRAM), told=told)
     with chtab.Network.from_arrays([1, 2], [2, 3], [0.0104, 2.5], unit="kilometres", program=PROGRAM) as network:
         assert network.distances([(1, 3)])[0] == 2.5104 and network.rounding < 1e-9
-
-
-def test_a_limit_lets_through_what_is_just_as_far():
-    """Limits and answers are floats that compare as the arcs did: each distance is within itself, and not within the next float below."""
-    draw = numpy.random.default_rng(7)
-    weights = numpy.round(draw.random(60) * draw.choice([1, 10, 1_000], 60), 3)
-    with chtab.Network.from_arrays(range(60), range(1, 61), weights, unit="minutes", program=PROGRAM) as network:
-        for weight in network.distances([(0, place) for place in range(61)]).tolist():
-            exact = network._measure.limit("within", weight)
-            assert exact / 60_000 <= weight < (exact + 1) / 60_000, weight
-            assert not weight or network._measure.limit("within", numpy.nextafter(weight, -1)) == exact - 1, weight
-            assert abs(fractions.Fraction(weight) * 60_000 - exact) < fractions.Fraction(1, 1_000)
 
 
 def test_calls_of_the_last_version_go_on():
@@ -165,7 +147,8 @@ def test_calls_of_the_last_version_go_on():
 
 
 def test_no_mean_is_over_minus_one():
-    """A frame has NA where no path leads, so that means and counts are those of the paths; arrays have what is asked for."""
+    """A frame has NA where no path leads, so that means and counts are those of the paths; arrays have what is asked for. GeoJSON keeps such a pair
+    at its place, with no geometry and the properties of all others."""
     with of_minutes() as network, of_minutes(raw=True) as raw:
         wanted = pandas.DataFrame({"school": [6.5, 7.0], "house": [NAN] * 2}, pandas.Index(["inn", "farm"], name="source")).rename_axis("target", axis=1)
         pandas.testing.assert_frame_equal(network.frame(["inn", "farm"], ["school", "house"]), wanted)
@@ -184,22 +167,16 @@ def test_no_mean_is_over_minus_one():
         found = nearest.to_frame()
         assert found["weight"].mean() == (1.25 + 2.5) / 2 and found["target"].tolist()[:2] == ["farm", "mill"] and found["target"].isna().sum() == 2
         assert nearest.mask.tolist() == [[False, False], [True, True]] and nearest.places[1].tolist() == [-1, -1] and len(nearest) == 3
-
-
-def test_geojson_keeps_each_pair():
-    """A pair without a path has a feature without a geometry, at its place, with the properties of all others."""
     names, x, y = ["farm", "house", "inn", "mill", "school"], [9.48, 9.6, 9.50, 9.52, 9.54], [47.09, 47.2, 47.10, 47.11, 47.12]
     with of_minutes(nodes=names, x=x, y=y) as network:
         features = network.routes([("inn", "house"), ("farm", "mill"), ("house", "inn")]).to_geojson()["features"]
         assert [each["geometry"] is None for each in features] == [True, False, True]
+        assert features[1]["geometry"]["coordinates"] == [(9.48, 47.09), (9.50, 47.10), (9.52, 47.11)]
         assert [tuple(each["properties"][key] for key in ("query", "source", "target", "weight")) for each in features] == [
             (0, "inn", "house", None), (1, "farm", "mill", 3.75), (2, "house", "inn", None),
         ]
-        assert features[1]["geometry"]["coordinates"] == [(9.48, 47.09), (9.50, 47.10), (9.52, 47.11)]
         assert all(each["properties"].keys() == features[0]["properties"].keys() for each in features)
 
-
-# Lines of arcs.
 
 LINE = [(9.50, 47.10), (9.51, 47.12), (9.52, 47.10)]
 
@@ -247,7 +224,7 @@ def test_lines_are_turned_to_their_arcs():
 
 @needs("python3-geopandas")
 def test_geodataframes_go_in_and_out():
-    """Lines alone, and the two frames of osmnx, make networks; routes, nearness and isochrones come out as frames with labels and shapes."""
+    """Lines alone, and the two frames of osmnx, make networks; a column `osmid` has the numbers of ways; answers come out as frames with shapes."""
     import geopandas
     from shapely.geometry import LineString, Point
 
@@ -269,40 +246,33 @@ def test_geodataframes_go_in_and_out():
     nodes = geopandas.GeoDataFrame(geometry=[Point(9.54, 47.11), Point(9.52, 47.10), Point(9.50, 47.10)], index=["c", "b", "a"], crs="EPSG:4326")
     with chtab.Network.from_geodataframe(edges.assign(u=["a", "b"], v=["b", "c"], key=0).set_index(["u", "v", "key"]), nodes, **more) as network:
         assert network.distances([("a", "c")]).tolist() == [5.5] and network.labels.tolist() == ["c", "b", "a"]
+    with chtab.Network.from_geodataframe(edges.assign(osmid=[11, [12, 13]]), both_ways=True, **more) as network:
+        for way, apart in (11, [NAN, 1, 1]), (12, [4.5, NAN, NAN]), (13, [4.5, NAN, NAN]):
+            with network.changed(closed=[f"way/{way}"]) as other:
+                assert numpy.array_equal(other.distances([(1, 2), (2, 3), (3, 2)]), apart, equal_nan=True), way
     lost = edges.assign(geometry=[lines[0], None])
     assert raises(chtab.DataFault, lambda: chtab.Network.from_geodataframe(lost, program=PROGRAM), told="geometry[1]").row == 1
 
 
-@pytest.fixture
-def of_tags():
-    """A network whose nodes have names that are HTML."""
-    names = ["<script>a</script>", "b&c"]
-    with chtab.Network.from_arrays(names, names[::-1], [1, 2], nodes=names, x=[9.5, 9.6], y=[47.1, 47.2], program=PROGRAM) as network:
-        yield network, names, network.routes([names, names[::-1]]), network.nearest_targets(None, names[:1])
-
-
-@needs("python3-matplotlib")
-def test_answers_are_shown(of_tags):
-    """Maps by matplotlib have a line, polygon or point for each that has a geometry, and tables in notebooks show names as text."""
+@needs("python3-matplotlib", "python3-folium")
+def test_answers_are_shown():
+    """Maps by matplotlib have a line, polygon or point for each that has a geometry; tables in notebooks and maps by folium show names as text."""
     import matplotlib
 
     matplotlib.use("Agg")
-    network, names, routes, nearest = of_tags
-    isochrones = network.isochrones(network.snap([9.5], [47.1]), [1])
-    assert len(routes.plot().collections[0].get_paths()) == 2 and len(isochrones.plot().collections) == 1
-    assert len(nearest.plot().collections[0].get_offsets()) == 2
-    for answer in routes, network.near(None, names), nearest, isochrones, network:
-        text = answer._repr_html_()
-        assert "<script>" not in text and text.count("<") > 2, text
-    assert "&lt;script&gt;a&lt;/script&gt;" in routes._repr_html_() and "b&amp;c" in routes._repr_html_()
-
-
-@needs("python3-matplotlib", "python3-folium")
-def test_maps_to_move(of_tags):
-    """Maps by folium show names as text."""
-    for answer in of_tags[2:]:
-        text = answer.explore().get_root().render()
-        assert "&lt;script&gt;a" in text and "<script>a</script>" not in text.replace("\\u003c", "<").split("GeoJson")[0]
+    names = ["<script>a</script>", "b&c"]
+    with chtab.Network.from_arrays(names, names[::-1], [1, 2], nodes=names, x=[9.5, 9.6], y=[47.1, 47.2], program=PROGRAM) as network:
+        routes, nearest = network.routes([names, names[::-1]]), network.nearest_targets(None, names[:1])
+        isochrones = network.isochrones(network.snap([9.5], [47.1]), [1])
+        assert len(routes.plot().collections[0].get_paths()) == 2 and len(isochrones.plot().collections) == 1
+        assert len(nearest.plot().collections[0].get_offsets()) == 2
+        for answer in routes, network.near(None, names), nearest, isochrones, network:
+            text = answer._repr_html_()
+            assert "<script>" not in text and text.count("<") > 2, text
+        assert "&lt;script&gt;a&lt;/script&gt;" in routes._repr_html_() and "b&amp;c" in routes._repr_html_()
+        for answer in routes, nearest:
+            text = answer.explore().get_root().render()
+            assert "&lt;script&gt;a" in text and "<script>a</script>" not in text.replace("\\u003c", "<").split("GeoJson")[0]
 
 
 def test_what_is_common_is_taken():
@@ -333,10 +303,7 @@ def test_what_is_common_is_taken():
     (TypeError, "it has workers", lambda network: of_minutes(worker=2)), (TypeError, "it has weight", lambda network: chtab.Network.from_networkx(None, weights="length")),
     (TypeError, "within is a number, not '3'", lambda network: network.table(["inn"], ["mill"], within="3")),
     (TypeError, "within is a number", lambda network: network.table(["inn"], ["mill"], within=True)),
-    (ValueError, "within is -1", lambda network: network.table(["inn"], ["mill"], within=-1)),
-    (ValueError, "within is nan", lambda network: network.table(["inn"], ["mill"], within=NAN)),
     (TypeError, "as `snap` gives", lambda network: network.isochrones((9.5, 47.1), [3])),
-    (TypeError, "count is a whole number", lambda network: network.near(None, ["inn"], count=1.5)),
     (ValueError, "one pair is [(1, 3)]", lambda network: network.distances(("inn", "mill"))),
     (TypeError, "progress is True, False or a call", lambda network: network.near(None, ["inn"], progress="yes")),
     (TypeError, "open has no argument 'colour'", lambda network: chtab.Network.open("a.gr", colour=3)),

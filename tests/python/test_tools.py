@@ -10,35 +10,22 @@ import xml.etree.ElementTree
 import pytest
 
 from helpers.commands import command as tool
-from helpers.commands import run
+from helpers.commands import needs, run
 from helpers.maps import COUNTRY
-from helpers.marks import needs
 from helpers.moods import STANDIN, mood
 from helpers.packages import PYTHON
 from helpers.running import PROGRAM, ROOT
 from helpers.waiting import until
-
-pytestmark = pytest.mark.usefixtures("program")
-VILLAGE = ROOT / "tests" / "data" / "village.osm"
-
-
-def without(package):
-    """An environment in which a package can't be imported."""
-    pathlib.Path("none").mkdir(exist_ok=True)
-    pathlib.Path("none", f"{package}.py").write_text("raise ImportError\n")
-    return os.environ | {"PYTHONPATH": "none"}
-
-
-def write_list(path, nodes):
-    pathlib.Path(path).write_text(f"p aux sp ss {len(nodes)}\n" + "".join(f"s {node}\n" for node in nodes))
+from helpers.writing import write_list
 
 
 def village():
     """Files of the village: roads.gr, roads.co, roads.nodes."""
-    tool("osm_to_gr", "--quiet", VILLAGE, "roads")
+    tool("osm_to_gr", "--quiet", ROOT / "tests" / "data" / "village.osm", "roads")
 
 
 def test_nearest_nodes():
+    """The nearest node of each place, with numpy and without it, by a search over all nodes; lists, queries, and what is no place."""
     nodes = [tuple(map(int, line.split()[1:])) for line in open(f"{COUNTRY}.co") if line.startswith("v")]
     draw = random.Random("two hundred places")
     places = [(draw.uniform(9.4, 9.7), draw.uniform(47.0, 47.3)) for _ in range(200)]
@@ -54,21 +41,20 @@ def test_nearest_nodes():
 
         return min(nodes, key=square)[0]
 
-    text = "".join(f"{x} {y} a place\n" for x, y in places)
-    wanted = [near(place) for place in places]
+    text, wanted = "".join(f"{x} {y} a place\n" for x, y in places), [near(place) for place in places]
     for words in ([], ["--plain"]):
         found = tool("nearest", *words, "--max-metres", "inf", f"{COUNTRY}.co", text=text).splitlines()
         assert found[0] == f"p aux sp ss {len(places)}"
         assert [int(line.split()[1]) for line in found[1:] if line.startswith("s")] == wanted, words
-    found = tool("nearest", f"{COUNTRY}.co", "--queries", text="# none\n9.5209 47.1410 Vaduz\n\n9.6079 47.1020\n").splitlines()
-    assert found[0] == "p aux sp p2p 1" and found[1].startswith("c Vaduz: node ") and found[1].endswith(" m away")
-    assert "no second" in tool("nearest", "--queries", f"{COUNTRY}.co", text=text.split("\n")[0], status=1)
-    assert "line 2" in tool("nearest", f"{COUNTRY}.co", text="9 47\n47.1 199\n", status=1)
-    assert "line 1" in tool("nearest", f"{COUNTRY}.co", text="Vaduz\n", status=1)
-    assert "no line `v" in tool("nearest", "--all", f"{COUNTRY}.gr", status=1)
-    for words in ([], ["--plain"]):
         fault = tool("nearest", *words, f"{COUNTRY}.co", text="47.1410 9.5209 Vaduz\n", status=1)
         assert fault.startswith("nearest: Vaduz is 5,467,4") and fault.count("\n") == 1, fault
+    found = tool("nearest", f"{COUNTRY}.co", "--queries", text="# none\n9.5209 47.1410 Vaduz\n\n9.6079 47.1020\n").splitlines()
+    assert found[0] == "p aux sp p2p 1" and found[1].startswith("c Vaduz: node ") and found[1].endswith(" m away")
+    for words, given, told in (
+        (["--queries", f"{COUNTRY}.co"], text.split("\n")[0], "no second"), ([f"{COUNTRY}.co"], "9 47\n47.1 199\n", "line 2"),
+        ([f"{COUNTRY}.co"], "Vaduz\n", "line 1"), (["--all", f"{COUNTRY}.gr"], "", "no line `v"),
+    ):
+        assert told in tool("nearest", *words, text=given, status=1)
 
 
 def test_answers_to_geojson_and_csv():
@@ -175,42 +161,35 @@ def lists():
 
 
 def test_tables_in_blocks(lists):
-    graph = lists[0]
-    whole = run(PROGRAM, "table", *lists)
-    words = ["--program", PROGRAM, "--processes", "2", "--side", "4"]
-    assert tool("blocks", *words, *lists, "table.csv") == "9 by 14 cells in table.csv, from 12 blocks\n"
-    assert pathlib.Path("table.csv").read_text() == tool("to_geojson", "table", "to.ss", text=whole)
-    blocks_by_saved_hierarchies(graph)
+    """As text and as numpy's file: whole tables, and those without the cells above a limit, in blocks of any size, by a hierarchy that is given or
+    built. A fault is reported in one line, and leaves no file."""
+    graph, whole, words = lists[0], run(PROGRAM, "table", *lists), ["--program", PROGRAM, "--processes", "2"]
+    wanted, limit = tool("to_geojson", "table", "to.ss", text=whole), 1_000_000
+    assert tool("blocks", *words, "--side", "4", *lists, "table.csv") == "9 by 14 cells in table.csv, from 12 blocks\n"
+    assert pathlib.Path("table.csv").read_text() == wanted
+    pathlib.Path("own.ch").write_text(run(PROGRAM, "save", graph))
+    for more in [], ["--saved", "own.ch"], ["--side", "2"], ["--workers", "2"]:
+        tool("blocks", *words, *more, *lists, "again.csv")
+        assert pathlib.Path("again.csv").read_text() == wanted, more
+    tool("blocks", *words, "--side", "7", "--within", limit, *lists, "again.csv")
+    cells = [[cell if int(cell) <= limit else "" for cell in line.split(",")[1:]] for line in wanted.splitlines()[1:]]
+    assert [line.split(",")[1:] for line in pathlib.Path("again.csv").read_text().splitlines()[1:]] == cells
     write_list("all.ss", [3, 1, 2])
     tool("blocks", *words, "--side", "2", ROOT / "examples" / "first.gr", "all.ss", "all.ss", "table.npy")
     head, cells = pathlib.Path("table.npy").read_bytes().split(b"\n", 1)
     assert (len(head) + 1) % 64 == 0 and b"'shape': (3, 3)" in head
     assert [int.from_bytes(cells[at:at + 8], "little", signed=True) for at in range(0, 72, 8)] == [0, -1, -1, 9, 0, 4, 5, -1, 0]
     write_list("far.ss", [1, 2, 3, 4, 5, 3155])
-    fault = tool("blocks", *words, graph, "from.ss", "far.ss", "far.csv", status=1)
-    assert "targets 5 to 6: a node is not from 1 to 3,154" in fault, fault
-    assert not [name for name in os.listdir() if "far.csv" in name]
-    assert "python3-distributed" in tool("blocks", "--scheduler", "none", *words, *lists, "o.csv", status=1, env=without("distributed"))
-
-
-def blocks_by_saved_hierarchies(graph):
-    """The same by a hierarchy that is given, by one that several workers build, in blocks of any size, and without the cells above a limit."""
-    wanted, lists = pathlib.Path("table.csv").read_text(), (graph, "from.ss", "to.ss", "again.csv")
-    pathlib.Path("own.ch").write_text(run(PROGRAM, "save", graph))
-    for words in [], ["--saved", "own.ch"], ["--side", "2"], ["--workers", "2"]:
-        tool("blocks", "--program", PROGRAM, "--processes", "2", *words, *lists)
-        assert pathlib.Path("again.csv").read_text() == wanted, words
-    limit = 1_000_000
-    tool("blocks", "--program", PROGRAM, "--processes", "4", "--side", "7", "--within", limit, *lists)
-    rows = [line.split(",") for line in wanted.splitlines()[1:]]
-    cells = [[cell if int(cell) <= limit else "" for cell in row[1:]] for row in rows]
-    assert [line.split(",")[1:] for line in pathlib.Path("again.csv").read_text().splitlines()[1:]] == cells
-    pathlib.Path("own.ch").write_text("p ch 1 0\no 1\n")
-    words = ["--program", PROGRAM, "--saved", "own.ch", graph, "from.ss", "to.ss", "refused.csv"]
-    assert "saved line 1: size too large" in tool("blocks", *words, status=1)
-    for words in ["--saved", "none.ch", graph], ["none.gr"]:
-        fault = tool("blocks", "--program", PROGRAM, *words, "from.ss", "to.ss", "refused.csv", status=1)
-        assert f"No such file or directory: '{os.getcwd()}/none." in fault and fault.count("\n") == 1, fault
+    pathlib.Path("bad.ch").write_text("p ch 1 0\no 1\n")
+    pathlib.Path("distributed.py").write_text("raise ImportError\n")
+    for more, told in (
+        (["--side", "4", graph, "from.ss", "far.ss"], "targets 5 to 6: a node is not from 1 to 3,154"),
+        (["--saved", "bad.ch", *lists], "saved line 1: size too large"), (["--scheduler", "none", *lists], "python3-distributed"),
+        (["--saved", "none.ch", *lists], f"No such file or directory: '{os.getcwd()}/none.ch'"),
+        (["none.gr", "from.ss", "to.ss"], f"No such file or directory: '{os.getcwd()}/none.gr'"),
+    ):
+        fault = tool("blocks", *words, *more, "refused.csv", status=1, env=os.environ | {"PYTHONPATH": "."})
+        assert told in fault and fault.count("\n") == 1 and not [name for name in os.listdir() if "refused.csv" in name], fault
 
 
 @needs("python3-distributed")
@@ -239,9 +218,3 @@ def test_no_worker_comes(lists):
     with distributed.LocalCluster(n_workers=0, dashboard_address=None) as cluster:
         told = tool("blocks", "--program", PROGRAM, "--scheduler", cluster.scheduler_address, *lists, "o.csv", status=1)
     assert "has no worker, after 10 seconds" in told and told.count("\n") == 1, told
-
-
-def test_help_is_there():
-    for path in sorted((ROOT / "tools").glob("*.py")):
-        text = tool(path.stem, "--help")
-        assert "Example:" in text and len(path.read_text().splitlines()) < 250, path.name

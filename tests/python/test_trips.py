@@ -1,10 +1,9 @@
 """Tests trips between places beside roads, and reach, by the Python package and its commands."""
+import itertools
 import json
 import math
 import pathlib
 import random
-
-import pytest
 
 from helpers.commands import command, raises
 from helpers.maps import COUNTRY, random_map
@@ -16,39 +15,7 @@ from oracles import mapping
 import chtab
 from chtab import files
 
-pytestmark = pytest.mark.usefixtures("program")
 VADUZ, MALBUN, RUGGELL = (9.5209, 47.1410), (9.6079, 47.1020), (9.5280, 47.2390)
-
-
-def test_trips_are_exact_between_places_on_roads():
-    """Places beside roads: trips on the graph of crossings with its bends against those on the graph of all bends, by a search of this
-    script over both ends of each road."""
-    graphs = ("all", ["--nodes", "all"]), ("crossings", ["--bends"])
-    for name, words in graphs:
-        command("osm_to_gr", "--quiet", *words, f"{COUNTRY}.osm.bz2", name)
-    graph, coordinates = files.read_graph("all.gr"), files.read_coordinates("all.co")
-    draw = random.Random("two hundred trips")
-
-    def place():
-        arc, part = draw.randrange(len(graph.tails)), draw.random()
-        (x, y), (u, v) = coordinates.of(graph.tails[arc]), coordinates.of(graph.heads[arc])
-        return x + (u - x) * part + draw.gauss(0, 20) / 75_700, y + (v - y) * part + draw.gauss(0, 20) / 111_195
-
-    places = numpy.array([place() for _ in range(400)])
-    found = []
-    for name, _ in graphs:
-        with chtab.Network.open(f"{name}.gr", program=PROGRAM) as network:
-            spots = network.snap(*places.T)
-            found.append(network.trips(spots[:200], spots[200:]))
-            few = network.trip_routes(spots[:20], spots[200:220])
-            assert [trip.weight for trip in few] == found[-1][:20].tolist()
-            assert numpy.array_equal(numpy.diag(network.trip_table(spots[:20], spots[200:220])), found[-1][:20])
-            for trip, start, end in zip(few, spots[:20].longitudes, spots[200:220].longitudes):
-                assert max(abs(trip.line[0][0] - start), abs(trip.line[-1][0] - end)) < 2e-5
-                steps = numpy.hypot(*(numpy.diff(trip.line, axis=0) * (75_700, 111_195)).T)
-                assert abs(steps.sum() - trip.metres) < 0.01 * trip.metres
-    errors = abs(found[0] - found[1]) / 1000
-    assert (found[0] >= 0).all() and (errors < 5).mean() >= 0.99, sorted(errors)[-10:]
 
 
 def test_places_on_one_road_and_past_it():
@@ -75,11 +42,11 @@ def test_places_on_one_road_and_past_it():
 
 
 def test_reach_is_where_its_nodes_are():
-    """Polygons of reach have all nodes that are reached, but for their smoothed corners, and few of the others."""
+    """Polygons of reach have all nodes that are reached, but for their smoothed corners, and few others. It starts at one spot, and has limits."""
     with chtab.Network.open(f"{COUNTRY}.gr", program=PROGRAM) as network:
-        spot = network.snap(*VADUZ)
-        times = network.reach(spot, 600_000)
-        found = network.isochrones(spot, [300_000, 600_000])["features"]
+        spots = network.snap(*zip(VADUZ, MALBUN))
+        times = network.reach(spots[0], 600_000)
+        found = network.isochrones(spots[0], [300_000, 600_000])["features"]
         assert [each["properties"]["limit"] for each in found] == [600_000, 300_000]
         outer, inner = (shape(each["geometry"]).buffer(0) for each in found)
         assert outer.is_valid and inner.is_valid and inner.difference(outer).area < 0.01 * inner.area
@@ -87,7 +54,12 @@ def test_reach_is_where_its_nodes_are():
             inside = MultiPoint(network.roads.places[(times >= 0) & (times <= limit)].tolist())
             assert sum(area.buffer(0.0006).contains(place) for place in inside.geoms) == len(inside.geoms)
         assert outer.contains(Point(VADUZ)) and not outer.contains(Point(RUGGELL))
-        raises(ValueError, network.isochrones, spot, [], told="limit")
+        raises(ValueError, network.isochrones, spots[0], [], told="limit")
+        for within in -1, 2**60 + 1, math.nan:
+            raises(ValueError, network.reach, spots[0], within, told="from 0 to 2^60")
+        for some in spots, spots[:0]:
+            for call in lambda spot: network.isochrones(spot, [1000]), network.reach:
+                raises(ValueError, call, some, told=f"one spot, not at {len(some)}")
 
 
 def crossings():
@@ -105,27 +77,6 @@ def metres_of(places, others):
     """By the haversine formula, in plain Python."""
     (x, y), (u, v) = ([math.radians(part) for part in place] for place in (places, others))
     return 2 * 6_371_008.8 * math.asin(math.sqrt(math.sin((v - y) / 2) ** 2 + math.cos(y) * math.cos(v) * math.sin((u - x) / 2) ** 2))
-
-
-def test_lines_in_arrays_are_those_of_the_file():
-    """The pieces of all arcs with their parts, which are made at once, against each arc by itself."""
-    graph, coordinates, bends = crossings()
-    with chtab.Network.open("crossings.gr", program=PROGRAM, load=False) as network:
-        arcs, ends, parts = (column.tolist() for column in network.roads.segments())
-    found = {}
-    for arc, end, part in zip(arcs, ends, parts):
-        found.setdefault(arc, []).append((end, part))
-    assert len(found) > 7_000
-    for arc, line in enumerate(lines_of_arcs(graph, coordinates, bends)):
-        steps = [metres_of(*pair) for pair in zip(line, line[1:])]
-        sums = [sum(steps[:count]) / (sum(steps) or 1) for count in range(len(line))]
-        if arc not in found:
-            assert graph.tails[arc] == graph.heads[arc] and arc not in bends, arc
-            continue
-        of_arc = sorted(found[arc], key=lambda piece: piece[1])
-        assert [end for end, _ in of_arc] == [[*a, *b] for a, b in zip(line, line[1:])], arc
-        for (_, part), wanted in zip(of_arc, zip(sums, sums[1:])):
-            assert all(abs(a - b) < 1e-6 for a, b in zip(part, wanted)), (arc, part, wanted)
 
 
 def test_places_are_taken_to_the_nearest_road():
@@ -156,16 +107,15 @@ def test_places_are_taken_to_the_nearest_road():
 def test_routes_follow_the_bends_of_their_roads():
     """Routes between nodes as GeoJSON, against the lines of their arcs one after the other; and without a file of bends from node to node."""
     graph, coordinates, bends = crossings()
-    lines = {}
+    lines, longer = {}, 0
     for line, *arc in zip(lines_of_arcs(graph, coordinates, bends), graph.tails, graph.heads, graph.weights):
         lines.setdefault(tuple(arc), line)
     pairs = numpy.random.default_rng(3).integers(1, graph.nodes + 1, (60, 2))
     with chtab.Network.open("crossings.gr", program=PROGRAM) as network:
-        routes = network.routes(pairs)
-        features = routes.to_geojson()["features"]
-        assert len(features) == sum(each.nodes is not None for each in routes) > 50
-        longer = 0
-        for each, feature in zip([each for each in routes if each.nodes], features):
+        routes = [each for each in network.routes(pairs) if each.nodes]
+        features = network.routes(pairs).to_geojson()["features"]
+        assert len(features) == len(routes) > 50
+        for each, feature in zip(routes, features):
             wanted = [coordinates.of(each.nodes[0])]
             for arc in zip(each.nodes, each.nodes[1:], each.weights):
                 wanted += [place for place in lines[arc] if place != wanted[-1]]
@@ -179,75 +129,40 @@ def test_routes_follow_the_bends_of_their_roads():
         assert len(feature["geometry"]["coordinates"]) == len(network.routes(pairs[:1])[0].nodes)
 
 
-def test_a_graph_that_was_changed_is_told():
-    """The lines of a route are not drawn by the roads of another graph."""
-    crossings()
-    with chtab.Network.open("crossings.gr", program=PROGRAM) as network:
-        routes = network.routes([(1, 2_000)])
-        text = pathlib.Path("crossings.gr").read_text().splitlines()
-        pathlib.Path("crossings.gr").write_text("".join(f"{line}1\n" if line.startswith("a") else f"{line}\n" for line in text))
-        raises(chtab.ChtabError, routes.to_geojson, told="has changed since it was opened")
-
-
-def test_places_that_are_too_far_are_named():
-    """All of them; and reach starts at one spot, and has a limit as other calls do."""
-    with chtab.Network.open(f"{COUNTRY}.gr", program=PROGRAM) as network:
-        x, y = zip(VADUZ, VADUZ[::-1], MALBUN, VADUZ[::-1])
-        for call, what in (network.nearest_nodes, "node"), (network.snap, "road"):
-            fault = raises(chtab.TooFar, call, x, y, told=f"is 5,467 km from the nearest {what}")
-            assert list(fault.places) == [1, 3] and fault.places[3] > 5_000_000
-        spots = network.snap(x[::2], y[::2])
-        for within in -1, 2**60 + 1, math.nan:
-            raises(ValueError, network.reach, spots[:1], within, told="from 0 to 2^60")
-        for some, count in (spots, 2), (spots[:0], 0):
-            for call in lambda spot: network.isochrones(spot, [1000]), network.reach:
-                raises(ValueError, call, some, told=f"one spot, not at {count}")
-
-
 def test_reach_within_a_limit_leaves_out_nothing():
     """What is reached within a limit is all that a search without a limit finds so near. Also where a road takes no time, and where a node has no
     place."""
-    def same(network, place, limits):
-        spot = network.snap(*place)
-        whole = network.reach(spot)
-        for limit in limits:
-            assert numpy.array_equal(network.reach(spot, limit), numpy.where(whole <= limit, whole, -1)), limit
-
-    graph, coordinates, _ = crossings()
-    with chtab.Network.open("crossings.gr", program=PROGRAM) as network:
-        same(network, VADUZ, (0, 1, 60_000, 300_000, 600_000, 2_000_000, 2**60))
-    arcs = list(zip(graph.tails, graph.heads, graph.weights))
-    write_graph("quick.gr", graph.nodes, [*arcs[1:], (*arcs[0][:2], 0)])
-    lines = pathlib.Path("crossings.co").read_text().splitlines(keepends=True)
-    pathlib.Path("quick.co").write_text("".join(lines))
-    with chtab.Network.open("quick.gr", program=PROGRAM) as network:
-        same(network, VADUZ, (0, 60_000, 300_000))
-    write_graph("blank.gr", graph.nodes, arcs)
-    pathlib.Path("blank.co").write_text("".join(line for line in lines if not line.startswith("v 1500 ")))
-    with chtab.Network.open("blank.gr", program=PROGRAM) as network:
-        same(network, VADUZ, (0, 60_000, 300_000))
+    graph, places = files.read_graph(f"{COUNTRY}.gr"), pathlib.Path(f"{COUNTRY}.co").read_text().splitlines(keepends=True)
+    roads = list(zip(*graph[1:4]))
+    quick, blank = [*roads[1:], (*roads[0][:2], 0)], [line for line in places if not line.startswith("v 1500 ")]
+    for arcs, lines in (roads, places), (quick, places), (roads, blank):
+        write_graph("own.gr", graph.nodes, arcs)
+        pathlib.Path("own.co").write_text("".join(lines))
+        with chtab.Network.open("own.gr", program=PROGRAM) as network:
+            spot = network.snap(*VADUZ)
+            whole = network.reach(spot)
+            for limit in 0, 1, 60_000, 300_000, 600_000, 2_000_000, 2**60:
+                assert numpy.array_equal(network.reach(spot, limit), numpy.where(whole <= limit, whole, -1)), limit
 
 
 def test_commands_tell_trips_and_reach():
     """The commands `trips` and `reach` write what the package finds, and refuse what lies nowhere near."""
-    places = "9.5209 47.1410 Vaduz\n9.6079 47.1020 Malbun\n9.5280 47.2390 Ruggell\n9.5020 47.0660\n"
+    places, swapped = "9.5209 47.1410 Vaduz\n9.6079 47.1020 Malbun\n9.5280 47.2390 Ruggell\n9.5020 47.0660\n", "47.1410 9.5209 Vaduz\n47.1 9.5\n"
     words = "--program", PROGRAM, COUNTRY
     with chtab.Network.open(f"{COUNTRY}.gr", program=PROGRAM) as network:
         spots = network.snap(*zip(VADUZ, MALBUN, RUGGELL, (9.5020, 47.0660)))
-        table = network.trip_table(spots, spots)
+        table, metres = network.trip_table(spots, spots), spots.metres.round().astype(int)
         limits = [feature["geometry"] for feature in network.isochrones(spots[:1], [60_000, 300_000])["features"]]
-    metres = spots.metres.round().astype(int)
     told = [f"Vaduz,Malbun,{table[0, 1]},{metres[0]},{metres[1]}", f"Ruggell,9.502 47.066,{table[2, 3]},{metres[2]},{metres[3]}"]
     assert command("trips", *words, text=places).splitlines() == ["from,to,weight,from_metres,to_metres", *told]
-    rows = [line.split(",") for line in command("trips", "--table", *words, text=places).splitlines()]
-    assert [row[0] for row in rows] == ["source", "Vaduz", "Malbun", "Ruggell", "9.502 47.066"] and rows[0][1:] == [row[0] for row in rows[1:]]
-    assert [row[1:] for row in rows[1:]] == [list(map(str, row)) for row in table.tolist()]
+    names = ["Vaduz", "Malbun", "Ruggell", "9.502 47.066"]
+    rows = [",".join(map(str, row)) for row in (["source", *names], *([name, *row] for name, row in zip(names, table.tolist())))]
+    assert command("trips", "--table", *words, text=places).splitlines() == rows
     lines = json.loads(command("trips", "--geojson", *words, text=places))["features"]
     assert [each["properties"]["weight"] for each in lines] == [table[0, 1], table[2, 3]] and len(lines[0]["geometry"]["coordinates"]) > 10
     found = json.loads(command("reach", *words, "--limits", "60000,300000", text=places))["features"]
     assert [each["properties"] for each in found] == [{"limit": limit, "from": "Vaduz"} for limit in (300_000, 60_000)]
     assert [each["geometry"] for each in found] == json.loads(json.dumps(limits))
-    swapped = "47.1410 9.5209 Vaduz\n47.1 9.5\n"
     for name, more in ("trips", ()), ("trips", ("--table",)), ("reach", ("--limits", 1000)):
         fault = command(name, *more, *words, text=swapped, status=1)
         assert "is 5,467 km from the nearest road, more than 1 km" in fault and fault.count("\n") == 1, fault
@@ -256,14 +171,13 @@ def test_commands_tell_trips_and_reach():
 
 
 def test_trips_between_roads_with_turns():
-    """Places beside roads and at crossings of random maps with restricted turns: each trip is the best of the search from arc to arc."""
+    """Places beside roads of random maps with restricted turns: each trip is the best of the search from arc to arc."""
     draw, compared, longer = random.Random("places and turns"), 0, 0
     for _ in range(360):
         text, nodes = random_map(draw, 12), draw.choice(["crossings", "all"])
         world = mapping.Map(text, "car")
         found = mapping.arcs(world, nodes == "all")
-        never = mapping.forbidden(world, found)
-        if never:
+        if never := mapping.forbidden(world, found):
             pathlib.Path("map.osm").write_text(text)
             command("osm_to_gr", "--quiet", "--turns", "--bends", "--part", "all", "--nodes", nodes, "map.osm", "map")
             with chtab.Network.open("map.gr", program=PROGRAM) as network:
@@ -284,52 +198,40 @@ def test_commands_know_graphs_with_turns():
 
 
 def spots_and_arcs(draw, network, pieces, found):
-    """Spots on roads and at crossings, where no other lies, and for each the arcs on which a trip from it begins and on which one to it ends."""
-    roads, names, seen = network.roads, files.read_names("map.nodes"), set()
-    named = [tuple(sorted((start[0], end[0]))) for _, (start, end), *_ in pieces]
-    places, ways = [], []
+    """Spots on roads, where no other lies, and for each the arcs along its road with how far along these it is."""
+    roads, names = network.roads, files.read_names("map.nodes")
+    named, places, own, arcs = [{start[0], end[0]} for _, (start, end), *_ in pieces], [], [], []
     for road in range(len(roads)):
         first, last = (names[int(node)] for node in (roads.firsts[road], roads.lasts[road]))
-        own = [number for number, ends in enumerate(named) if ends == tuple(sorted((first, last)))]
-        if len(own) == 1 and first != last and not any(copy for _, copy in pieces[own[0]][1]):
-            for part in 0.0, draw.uniform(0.1, 0.9):
-                places.append((road, part, tuple(roads.lines.stretch(road, part, part)[0].tolist())))
-                ways.append((own[0], first))
+        if named.count({first, last}) == 1 and first != last and not any(copy for _, copy in pieces[named.index({first, last})][1]):
+            for part in draw.uniform(0.1, 0.5), draw.uniform(0.5, 0.9):
+                places.append(roads.lines.stretch(road, part, part)[0].tolist())
+                own.append((road, named.index({first, last}), (first, 0)))
     if not places:
         return None, []
-    spots = network.snap(*zip(*(at for _, _, at in places)))
-    kept, arcs = [], []
-    for place, ((road, part, at), (piece, first)) in enumerate(zip(places, ways)):
-        node = (first, 0)
-        if part and (spots.roads[place], 0 < spots.parts[place] < 1) == (road, True):
-            on = {number: float(spots.parts[place]) for number, arc in enumerate(found) if arc[4] == piece}
-            on = {number: share if found[number][0] == node else 1 - share for number, share in on.items()}
-            arcs.append((on, on))
-        elif not part and node not in seen and is_lone(network, names, at) and spots.parts[place] in (0, 1):
-            seen.add(node)
-            arcs.append(tuple({number: end for number, arc in enumerate(found) if arc[end] == node} for end in (0, 1)))
-        else:
-            continue
-        kept.append(place)
+    spots = network.snap(*zip(*places))
+    kept = [place for place, (road, *_) in enumerate(own) if spots.roads[place] == road and 0 < spots.parts[place] < 1]
+    for place in kept:
+        (_, piece, node), part = own[place], float(spots.parts[place])
+        arcs.append({number: part if arc[0] == node else 1 - part for number, arc in enumerate(found) if arc[4] == piece})
     return spots[kept], arcs
-
-
-def is_lone(network, names, at):
-    """Whether all nodes at a place are one crossing of the map."""
-    return len({names[node] for node in network.coordinates.known() if network.coordinates.of(node) == at}) == 1
 
 
 def same_trips(network, spots, ways, found, never):
     """Compares all trips between the spots; how many there are, and how many of them a restriction makes longer."""
     table, longer = network.trip_table(spots, spots).tolist(), 0
-    pairs = [(start, end) for start in range(len(ways)) for end in range(len(ways)) if start != end]
+    pairs = list(itertools.permutations(range(len(ways)), 2))
     starts, ends = (spots[list(part)] for part in zip(*pairs))
     following = [mapping.follow(found, each) for each in (set(), never)]
     for (start, end), weight, way in zip(pairs, network.trips(starts, ends).tolist(), network.trip_routes(starts, ends)):
-        plain, wanted = (mapping.trip(found, each, ways[start][0], ways[end][1]) for each in following)
+        plain, wanted = (mapping.trip(found, each, ways[start], ways[end]) for each in following)
         assert table[start][end] == weight == (-1 if way.weight is None else way.weight), (table[start][end], weight, way)
         assert weight < 0 if math.isinf(wanted) else abs(weight - wanted) <= 1.01, (weight, wanted, ways[start], ways[end])
         longer += wanted > plain + 2
+        if way.line:
+            ends = [[spots.longitudes[spot], spots.latitudes[spot]] for spot in (start, end)]
+            assert abs(numpy.subtract([way.line[0], way.line[-1]], ends)).max() < 2e-6, (way, ends)
+            assert abs(sum(map(metres_of, way.line, way.line[1:])) - way.metres) < 1 + 0.001 * way.metres, way
     return len(pairs), longer
 
 

@@ -8,8 +8,8 @@ import math
 import pathlib
 import random
 
+from helpers.commands import needs
 from helpers.maps import BLOCK, COUNTRY, ROAD, converted, first_nodes, osm, random_map, searched, tool, town
-from helpers.marks import needs
 from helpers.running import PROGRAM
 from oracles import dijkstra, turning
 

@@ -1,15 +1,13 @@
 """Tests turns that maps restrict (osm_to_gr.py --turns): crossroads with each kind of restriction, those that are left out, where trips
-start and end; and Liechtenstein, with its restrictions and with others, and random maps against the search from arc to arc of oracles/mapping.py.
+start and end; and random maps against the search from arc to arc of oracles/mapping.py.
 """
-import bz2
 import itertools
 import pathlib
 import random
-import re
 
-from helpers.maps import BLOCK, COUNTRY, ROAD, converted, noted, osm, random_map, searched, tool
+from helpers.maps import BLOCK, ROAD, converted, noted, osm, random_map, searched, tool
 from oracles import mapping
-from chtab_maps import profiles, restrictions
+from chtab_maps import profiles
 
 
 def crossroads(restriction, more=(), members=(("way", 1, "from"), ("node", 1, "via"), ("way", 2, "to"))):
@@ -30,6 +28,7 @@ def turns_forbidden(text, profile="car"):
 
 
 def test_turns_hold():
+    """Each word that forbids turns, and those that demand one, for whom it holds; at the crossing a trip begins and ends at nodes of its own."""
     for word, turns in {
         "no_left_turn": {"23"}, "no_right_turn": {"23"}, "no_straight_on": {"23"}, "no_entry": {"23"}, "no_exit": {"23"},
         "no_u_turn": {"23"}, "only_left_turn": {"24", "25"}, "only_straight_on": {"24", "25"}, "no_left_turn;no_u_turn": {"23"},
@@ -41,40 +40,29 @@ def test_turns_hold():
     assert sorted(arc[:2] for arc in made.arcs) == [
         (1, 3), (1, 4), (1, 5), (1, 6), (1, 7), (2, 4), (2, 6), (2, 7), (4, 2), (4, 3), (5, 1), (6, 1), (7, 1)
     ]
-    for more, turns in [
-        ({"except": "psv;motorcar"}, set()), ({"except": "bicycle;psv"}, {"23"}),
-        ({"restriction:motorcar": "only_straight_on"}, {"24", "25"}),
-        ({"hour_on": "07:00", "hour_off": "09:00"}, set()),
-    ]:
-        assert turns_forbidden(crossroads("no_left_turn", more)) == turns, more
-    ways = [("way", 1, "from"), ("way", 4, "from"), ("node", 1, "via"), ("way", 2, "to"), ("way", 3, "to")]
-    assert turns_forbidden(crossroads("no_entry", (), ways)) == {"23", "24", "53", "54"}
-    assert turns_forbidden(crossroads("only_right_turn", (), ways)) == {"25", "52"}
-
-
-def test_deleted_restrictions_are_not_there():
-    for head in "action='delete'", "visible='false'":
-        text = crossroads("no_left_turn").replace("<relation id='1'", f"<relation id='1' {head}")
-        assert converted(text, turns=True)[0].names == [1, 2, 3, 4, 5] and noted(text, turns=True) == {}
-
-
-def back_at(via, way):
-    return [(("way", way, "from"), ("node", via, "via"), ("way", way, "to")), {"type": "restriction", "restriction": "no_u_turn"}]
+    ways = ("way", 1, "from"), ("way", 4, "from"), ("node", 1, "via"), ("way", 2, "to"), ("way", 3, "to")
+    for text, turns in (
+        (crossroads("no_left_turn", {"except": "psv;motorcar"}), set()), (crossroads("no_left_turn", {"except": "bicycle;psv"}), {"23"}),
+        (crossroads("no_left_turn", {"restriction:motorcar": "only_straight_on"}), {"24", "25"}),
+        (crossroads("no_left_turn", {"hour_on": "07:00", "hour_off": "09:00"}), set()), (crossroads("no_entry", (), ways), {"23", "24", "53", "54"}),
+        (crossroads("only_right_turn", (), ways), {"25", "52"}),
+    ):
+        assert turns_forbidden(text) == turns, text
 
 
 def test_turns_back():
     """No turning back where the map says so: at a crossing, at a dead end, and on a way that leads through the node."""
-    nodes = {1: (0, 0), 2: (1, 0), 3: (2, 0), 4: (1, 1)}
-    made, _ = converted(osm(nodes, [([1, 2], ROAD), ([2, 3], ROAD), ([2, 4], ROAD)], [back_at(2, 1)]), turns=True)
-    assert made.names == [1, 2, 2, 2, 3, 4] and made.ends == [(2, 4)]
-    outs = {number: {made.names[head - 1] for tail, head, _ in made.arcs if tail == number} for number in (2, 3, 4)}
-    assert outs == {2: {1, 2, 3, 4}, 3: {3, 4}, 4: set()}
-    made, _ = converted(osm(nodes, [([1, 2], ROAD), ([2, 3], ROAD)], [back_at(3, 2)]), turns=True, part="largest")
+    def made_of(ways, via, way, **choices):
+        turn = [("way", way, "from"), ("node", via, "via"), ("way", way, "to")], {"type": "restriction", "restriction": "no_u_turn"}
+        made, _ = converted(osm({1: (0, 0), 2: (1, 0), 3: (2, 0), 4: (1, 1)}, [(way, ROAD) for way in ways], [turn]), turns=True, **choices)
+        return made, {number: {made.names[head - 1] for tail, head, _ in made.arcs if tail == number} for number in range(1, len(made.names) + 1)}
+
+    made, outs = made_of([[1, 2], [2, 3], [2, 4]], 2, 1)
+    assert made.names == [1, 2, 2, 2, 3, 4] and made.ends == [(2, 4)] and (outs[2], outs[3], outs[4]) == ({1, 2, 3, 4}, {3, 4}, set())
+    made, _ = made_of([[1, 2], [2, 3]], 3, 2, part="largest")
     assert made.names == [1, 2, 3, 3] and searched(made)[1, 3] == 2 * BLOCK == searched(made)[3, 1]
-    made, _ = converted(osm(nodes, [([1, 2, 3], ROAD), ([2, 4], ROAD)], [back_at(2, 1)]), turns=True)
-    assert made.names.count(2) == 4 and searched(made)[1, 3] == 2 * BLOCK
-    outs = [{made.names[head - 1] for tail, head, _ in made.arcs if tail == number} for number in (3, 4)]
-    assert sorted(map(sorted, outs)) == [[1, 4], [3, 4]]
+    made, outs = made_of([[1, 2, 3], [2, 4]], 2, 1)
+    assert made.names.count(2) == 4 and searched(made)[1, 3] == 2 * BLOCK and sorted(map(sorted, (outs[3], outs[4]))) == [[1, 4], [3, 4]]
 
 
 def test_no_turning_back_where_one_way_becomes_another():
@@ -95,30 +83,33 @@ def test_no_turning_back_where_one_way_becomes_another():
 
 
 def test_turns_not_read():
-    member = ("way", 1, "from"), ("node", 1, "via"), ("way", 2, "to")
+    """Restrictions that are deleted say nothing; others that can't be read, or hold for others or at times alone, are reported with the reason."""
+    start, over, end = member = ("way", 1, "from"), ("node", 1, "via"), ("way", 2, "to")
     elsewhere = "without roads that meet at the node"
     for word, members, reason in [
-        ("no_left_turn", [member[0], ("way", 4, "via"), member[2]], "over ways"),
-        ("no_left_turn", [*member, ("node", 2, "via")], "over ways"),
-        ("no_left_turn", member[:2], "without from, via and to"), ("no_left_turn", member[1:], "without from, via and to"),
-        ("no_stopping", member, "restriction=no_stopping"),
-        ("no_left_turn;only_straight_on", member, "restriction=no_left_turn;only_straight_on"),
-        ("no_left_turn", [("way", 99, "from"), *member[1:]], elsewhere),
-        ("no_left_turn", [member[0], ("node", 2, "via"), member[2]], elsewhere),
-        ("no_left_turn", [member[0], ("node", 99, "via"), member[2]], elsewhere),
+        ("no_left_turn", [start, ("way", 4, "via"), end], "over ways"), ("no_left_turn", [*member, ("node", 2, "via")], "over ways"),
+        ("no_left_turn", [start, over], "without from, via and to"), ("no_left_turn", [over, end], "without from, via and to"),
+        ("no_stopping", member, "restriction=no_stopping"), ("no_left_turn;only_straight_on", member, "restriction=no_left_turn;only_straight_on"),
+        ("no_left_turn", [("way", 99, "from"), over, end], elsewhere), ("no_left_turn", [start, ("node", 2, "via"), end], elsewhere),
+        ("no_left_turn", [start, ("node", 99, "via"), end], elsewhere),
     ]:
         assert noted(crossroads(word, (), members), turns=True) == {"turns": {reason: 1}}, (word, members)
         assert turns_forbidden(crossroads(word, (), members)) == set()
-    assert noted(crossroads("no_left_turn", {"except": "motor_vehicle"}), turns=True) == {"turns": {"not for cars": 1}}
-    assert noted(crossroads("no_left_turn", {"day_on": "Monday"}), turns=True) == {"turns": {"at times alone": 1}}
-    for key, reason in (("restriction:conditional", "at times alone"), ("restriction:hgv", "not for cars")):
-        text = crossroads("no_left_turn").replace("k=\"restriction\"", f"k=\"{key}\"")
-        assert noted(text, turns=True) == {"turns": {reason: 1}}, noted(text, turns=True)
+    plain = crossroads("no_left_turn")
     through = osm({1: (0, 0), 2: (1, 0), 3: (2, 0), 4: (1, 1)}, [([1, 2, 3], ROAD), ([2, 4], ROAD)],
-                  [((("way", 1, "from"), ("node", 2, "via"), ("way", 2, "to")), {"type": "restriction", "restriction": "no_left_turn"})])
-    assert noted(through, turns=True) == {"turns": {"a way that leads through the node": 1}}
-    blocked = crossroads("no_left_turn").replace("lat='0.0'></node>", "lat='0.0'><tag k='barrier' v='bollard'/></node>", 1)
+                  [([start, ("node", 2, "via"), end], {"type": "restriction", "restriction": "no_left_turn"})])
+    for text, reason in (
+        (crossroads("no_left_turn", {"except": "motor_vehicle"}), "not for cars"),
+        (crossroads("no_left_turn", {"day_on": "Monday"}), "at times alone"),
+        (plain.replace('k="restriction"', 'k="restriction:conditional"'), "at times alone"),
+        (plain.replace('k="restriction"', 'k="restriction:hgv"'), "not for cars"), (through, "a way that leads through the node"),
+    ):
+        assert noted(text, turns=True) == {"turns": {reason: 1}}, (reason, noted(text, turns=True))
+    blocked = plain.replace("lat='0.0'></node>", "lat='0.0'><tag k='barrier' v='bollard'/></node>", 1)
     assert noted(blocked, turns=True) == {"turns": {elsewhere: 1}, "barriers": {"barrier=bollard": 1}}, noted(blocked, turns=True)
+    for head in "action='delete'", "visible='false'":
+        text = plain.replace("<relation id='1'", f"<relation id='1' {head}")
+        assert converted(text, turns=True)[0].names == [1, 2, 3, 4, 5] and noted(text, turns=True) == {}
 
 
 def test_trips_begin_and_end_at_crossings_with_turns():
@@ -148,7 +139,9 @@ def test_trips_on_random_maps():
         text = random_map(draw, 12)
         for profile in profiles.NAMES:
             choices = {"nodes": draw.choice(["crossings", "all"]), "metric": draw.choice(["time", "metres"])}
-            found, never = arcs_and_turns(text, profile, **choices)
+            world = mapping.Map(text, profile)
+            found = mapping.arcs(world, choices["nodes"] == "all", choices["metric"] == "metres")
+            never = mapping.forbidden(world, found)
             longer += same_trips(text, found, never, profile, choices)
             if profile == "car":
                 never |= mapping.turned_back(found, never, everywhere=True)
@@ -160,19 +153,12 @@ def test_trips_on_random_maps():
     assert ", turning back at dead ends alone." in open("back.gr").readline()
 
 
-def arcs_and_turns(text, profile="car", nodes="crossings", metric="time"):
-    """The arcs of the other converter, and the pairs of them that may not follow on each other."""
-    world = mapping.Map(text, profile)
-    found = mapping.arcs(world, nodes == "all", metric == "metres")
-    return found, mapping.forbidden(world, found)
-
-
-def same_trips(text, found, never, profile="car", choices={}, starts=None):
-    """Compares the trips from some nodes, or all, that stand once but for turns; how many there are that a restriction makes longer."""
+def same_trips(text, found, never, profile="car", choices={}):
+    """Compares the trips between nodes that stand once but for turns; how many there are that a restriction makes longer."""
     longer, copies = 0, {node[0] for arc in found for node in arc[:2] if node[1]}
     if not never:
         return 0
-    nodes = {arc[0] for arc in found} if starts is None else starts
+    nodes = {arc[0] for arc in found}
     trips = searched(converted(text, turns=True, profile=profile, **choices)[0], {int(node[0]) for node in nodes})
     plain, turning = (mapping.follow(found, each) for each in (set(), never))
     for start in nodes:
@@ -182,22 +168,3 @@ def same_trips(text, found, never, profile="car", choices={}, starts=None):
                 assert trips.get((int(start[0]), int(end[0]))) == wanted.get(end), (start, end, profile, choices, text)
                 longer += wanted.get(end) != before.get(end)
     return longer
-
-
-def test_trips_in_liechtenstein():
-    """With the two restrictions of the map, of which one is left out; and with 60 more at crossings that are drawn."""
-    text, draw = bz2.open(f"{COUNTRY}.osm.bz2", "rt").read(), random.Random("turns of a country")
-    found, never = arcs_and_turns(text, nodes="all")
-    made, report = converted(text, turns=True)
-    assert (text.count("<relation"), report.total("turns"), len(made.ends)) == (2, 1, 1)
-    [over] = {found[a][1] for a, b in never if found[a][4] != found[b][4]}
-    assert same_trips(text, found, never, choices={"nodes": "all"}, starts={arc[0] for arc in found if arc[1] == over}) > 0
-    words, more = itertools.cycle(sorted(restrictions.FORBIDDING | restrictions.DEMANDING)), ""
-    pairs = [(a, b) for a in draw.sample(found, 600) for b in found if a[1] == b[0] and a[3] != b[3]]
-    for number, (a, b) in enumerate(draw.sample(pairs, 60), 1):
-        members = ("way", a[3], "from"), ("node", a[1][0], "via"), ("way", b[3], "to")
-        parts = "".join(f"<member type='{kind}' ref='{ref}' role='{role}'/>" for kind, ref, role in members)
-        more += f"<relation id='{number}'>{parts}<tag k='type' v='restriction'/><tag k='restriction' v='{next(words)}'/></relation>"
-    text = re.sub("<relation.*</relation>", "", text, flags=re.DOTALL).replace("</osm>", f"{more}</osm>")
-    found, never = arcs_and_turns(text)
-    assert len(never) > 60 and same_trips(text, found, never, starts=draw.sample(sorted({found[a][0] for a, _ in never}), 20)) > 1_000

@@ -1,10 +1,11 @@
 """Tests the types that the Python package tells (`py.typed`): mypy finds no fault in the package, and finds those of its callers."""
 import re
 import subprocess
+from pathlib import Path
 
 import pytest
 
-from helpers.marks import needs
+from helpers.commands import needs
 from helpers.packages import PYTHON
 from helpers.running import ROOT
 
@@ -72,12 +73,9 @@ def test_faults_of_callers_are_found(mypy, folder):
     """Of a caller's lines those that are right have no fault; each that is wrong has the one that it is there for."""
     wrong = "".join(f"{line}\n" for line, _ in WRONG)
     first = RIGHT.count("\n") + 2
-    with open("caller.py", "w") as file:
-        file.write(f"{RIGHT}import chtab.files\n{wrong}")
+    Path("caller.py").write_text(f"{RIGHT}import chtab.files\n{wrong}")
     status, lines = mypy(f"{folder}/caller.py")
-    found = {}
-    for number, text in re.findall(r"^\S*caller\.py:(\d+): error: (.*)$", "\n".join(lines), re.MULTILINE):
-        found.setdefault(int(number), []).append(text)
-    assert status == 1 and set(found) == set(range(first, first + len(WRONG))), lines
+    found = re.findall(r"^\S*caller\.py:(\d+): error: (.*)$", "\n".join(lines), re.MULTILINE)
+    assert status == 1 and {int(number) for number, _ in found} == set(range(first, first + len(WRONG))), lines
     for number, (line, told) in enumerate(WRONG, first):
-        assert told in found[number][0], (line, found[number])
+        assert told in next(text for at, text in found if int(at) == number), (line, found)

@@ -1,13 +1,14 @@
 """The order of a network in which new weights on its arcs take little time."""
 from __future__ import annotations
 
+import os
 import pathlib
 import threading
 from typing import TYPE_CHECKING
 
 import numpy
 
-from chtab._engine import forks, library
+from chtab._engine import forks, library, making
 from chtab._engine.interruptible import LONG, interruptible
 from chtab._files.forms import whole
 
@@ -66,10 +67,12 @@ class Customizing:
             return self
         return Customizing(self.calls, self.nodes, tails, heads, self.lines())
 
-    def keep(self, path: str) -> None:
-        """Writes the order into a file, which has its name once it is complete."""
-        with whole(path) as part:
+    def keep(self, folder: str) -> str:
+        """Writes the order into its file in a folder, which has its name once it is complete."""
+        path = os.path.join(folder, making.ORDER)
+        with making.naming(path), whole(path) as part:
             pathlib.Path(part).write_bytes(self.lines())
+        return path
 
 
 def lines_of(nodes: Integers) -> bytes:

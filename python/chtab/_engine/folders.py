@@ -42,12 +42,6 @@ class Folder:
             # The shell is no child of this process, which must not wait for it.
             self.watcher.returncode = 0
 
-    def __enter__(self) -> str:
-        return self.path
-
-    def __exit__(self, *_: object) -> None:
-        self.remove()
-
 
 def watched(path: str) -> subprocess.Popen[bytes] | None:
     """Starts the shell that removes a folder when this process is gone; None if it can't start."""

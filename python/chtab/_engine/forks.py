@@ -3,7 +3,7 @@
 A forked process has copies of all that its parent holds. Among these are the pipes of the parent's
 runs, and locks that are held by threads of the parent, which don't exist in the forked process and
 would never release them. An object that keeps such things calls `follow`, and its `leave_parent` is
-then called in each forked process.
+then called in each forked process. Those of `PREPARED` have their `before_fork` called before.
 """
 from __future__ import annotations
 
@@ -16,15 +16,23 @@ from typing import Any, Generic, TypeVar
 Value = TypeVar("Value")
 
 
-# Held while a run is started. No process is forked meanwhile, because it would inherit pipes that
-# nothing in it knows of.
+# Held while a run is started, because a process that is forked meanwhile would inherit pipes that
+# nothing in it knows of; and while files are written that it may need. Whoever holds the lock of an
+# object does not wait for this one.
 STEADY = threading.RLock()
 FOLLOWED: weakref.WeakSet[Any] = weakref.WeakSet()
+PREPARED: weakref.WeakSet[Any] = weakref.WeakSet()
 
 
 def follow(thing: Any) -> None:
     """Calls `thing.leave_parent()` in each forked process, as long as the object exists."""
     FOLLOWED.add(thing)
+
+
+def prepare() -> None:
+    STEADY.acquire()
+    for thing in list(PREPARED):
+        thing.before_fork()
 
 
 def leave_parents() -> None:
@@ -54,4 +62,4 @@ class computed_once(Generic[Value]):
 
 
 os.register_at_fork(
-    before=STEADY.acquire, after_in_parent=STEADY.release, after_in_child=leave_parents)
+    before=prepare, after_in_parent=STEADY.release, after_in_child=leave_parents)

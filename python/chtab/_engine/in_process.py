@@ -4,6 +4,7 @@ from __future__ import annotations
 
 import contextlib
 import os
+import pathlib
 import tempfile
 import threading
 import weakref
@@ -15,11 +16,13 @@ import numpy
 from chtab import files
 from chtab._engine import deadlines, forks, library, parts, running
 from chtab._engine.interruptible import LONG, interruptible
+from chtab._engine.stamps import Stamps
 from chtab._engine.walks import Paths
 from chtab.errors import ChtabError, mismatch
 
 if TYPE_CHECKING:
     from numpy.typing import NDArray
+    from chtab._engine.made import Made
     from chtab._engine.opening import Setting
     from chtab._engine.progress import Asked
     from chtab.typing import Integers
@@ -44,12 +47,6 @@ ROOM = 1 << 16
 SMALL, SEARCHES = 1 << 16, 1 << 4
 # No places: keeping these frees the places that a handle has.
 NO_PLACES = numpy.zeros(0, numpy.uint32)
-
-
-def contents_of(path: str) -> bytes:
-    """The bytes of a file."""
-    with open(path, "rb") as file:
-        return file.read()
 
 
 def share_nodes(sources: library.Nodes, targets: library.Nodes) -> bool:
@@ -86,13 +83,14 @@ class InProcess:
     # handle opens it, and belongs to the first thread that asks, or after its end to the next new
     # one. A forked process opens the network anew, and leaves the handles of its parent alone.
     # Tails, heads and weights of arcs go to the library in place of the graph's file.
-    def __init__(self, setting: Setting, arcs: Sequence[Integers] | None = None) -> None:
+    def __init__(self, setting: Setting, made: Made | None = None) -> None:
         for path in setting.files():
             open(path, "rb").close()
-        self.setting, self.stamps = setting, setting.stamps()
-        self.arcs = arcs
-        self.calls = library.loaded(setting.library)
-        self.nodes, self.is_closed, self.room = files.count_nodes(setting.graph), False, ROOM
+        self.setting, self.stamps, self.made = setting, Stamps(*setting.files()), made
+        self.calls, self.is_closed, self.room = library.loaded(setting.library), False, ROOM
+        self.nodes = made.arcs.labels.count if made else files.counts_in(setting.graph)[0]
+        if made is not None:
+            made.go_with(self)
         self.leave_parent()
         forks.follow(self)
 
@@ -132,16 +130,19 @@ class InProcess:
 
     def opened(self) -> library.Handle:
         """Opens the first handle."""
-        setting = self.setting
-        graph = contents_of(setting.graph) if self.arcs is None else b""
-        saved = self.built() if setting.saved is None else contents_of(setting.saved)
+        made, setting, stamps = self.made, self.setting, self.stamps
+        if made is not None and not setting.graph:
+            setting, stamps = made.setting, made.stamps
+        graph = pathlib.Path(setting.graph).read_bytes() if made is None else b""
+        saved = pathlib.Path(setting.saved).read_bytes() if setting.saved else self.built()
         # Checked after reading, so that what was read is what was there at first.
-        self.stamps.see_that_same()
+        stamps.see_that_same()
         handle = library.Handle(self.calls)
-        if self.arcs is None:
+        if made is None:
             interruptible(LONG, handle.open, graph, saved)
         else:
-            columns = library.columns_of(self.nodes, *self.arcs)
+            arcs = made.arcs
+            columns = library.columns_of(self.nodes, arcs.tails, arcs.heads, arcs.weights)
             interruptible(LONG, handle.open_arrays, self.nodes, *columns, saved)
         if handle.nodes() != self.nodes:
             raise mismatch()
@@ -150,13 +151,13 @@ class InProcess:
     def built(self) -> bytes | None:
         """The hierarchy that several workers of the program build; None if the library does."""
         setting = self.setting
-        if setting.workers == 1:
+        if setting.workers == 1 or not setting.graph:
             return None
         with tempfile.TemporaryDirectory(prefix="chtab-") as folder:
             path, words = (
                 os.path.join(folder, "built.ch"), ["--quick", "--workers", str(setting.workers)])
             running.save(setting.program, setting.graph, path, words, None)
-            return contents_of(path)
+            return pathlib.Path(path).read_bytes()
 
     def opened_like(self, graph: bytes, fresh: int) -> library.Handle:
         """A handle in the network of another graph, built in the order of this one's."""
@@ -282,7 +283,8 @@ class InProcess:
         rows, columns = (library.nodes_of(nodes, self.nodes) for nodes in (sources, targets))
         found = numpy.empty((len(rows), len(columns)), numpy.int64)
         limit = library.NO_LIMIT if within is None else within
-        keeps = max(len(rows), len(columns)) > SIDE
+        # Only then are there several blocks with the same targets.
+        keeps = len(rows) > SIDE
 
         def ask(handle: library.Handle, some: tuple[slice, slice]) -> None:
             call = handle.rows_to if keeps else handle.table
@@ -316,7 +318,9 @@ class InProcess:
         most = WIDTH if keeps and self.setting.timeout is None else side
         # Several threads have a part each.
         shares = max(1, min(self.setting.workers, rows * columns // WORTH))
-        height, width = max(1, min(side, -(-rows // shares))), max(1, min(columns, most))
+        width = max(1, min(columns, most))
+        # A wider block is lower: none has more cells than a square one.
+        height = max(1, min(side * side // max(side, width), -(-rows // shares)))
         down = -(-rows // height)
 
         def ask(handle: library.Handle, part: slice) -> None:

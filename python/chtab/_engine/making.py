@@ -1,14 +1,14 @@
-"""Writes the files of a network that is made of arcs: its graph, and its hierarchy, which is built
-once and saved."""
+"""Builds the hierarchy of a network that is made of arcs, and writes its files."""
 from __future__ import annotations
 
 import contextlib
 import hashlib
+import io
 import os
+import pathlib
 import secrets
-import shutil
-from collections.abc import Iterator, Sequence
-from typing import TYPE_CHECKING, Any
+from collections.abc import Iterator, Mapping, Sequence
+from typing import IO, TYPE_CHECKING, Any
 
 import numpy
 
@@ -20,12 +20,10 @@ from chtab._files.node_labels import Labels, fixed
 
 if TYPE_CHECKING:
     import ctypes
-    from chtab._engine.customizing import Customizing
-    from chtab._engine.in_process import InProcess
     from chtab._engine.library import Handle
     from chtab._engine.opening import Running
     from chtab._files.arc_columns import Arcs
-    from chtab.typing import Path
+    from chtab.typing import Integers, Path, Point
 
 # The files of a network in its folder.
 GRAPH, SAVED, COORDINATES, BENDS, LABELS = (
@@ -64,34 +62,39 @@ def see_that_free(folder: str) -> None:
             f"{folder} is there and is not empty; Network.open opens the network of a folder")
 
 
-def write(
-    arcs: Arcs, folder: str, program: str, calls: ctypes.CDLL, running: Running,
-) -> Handle | None:
-    """Writes the files of arcs, and builds their hierarchy; a handle if this process did."""
-    graph, saved, coordinates, bends, labels = (
-        os.path.join(folder, name) for name in (GRAPH, SAVED, COORDINATES, BENDS, LABELS))
-    comments = [f"Weights are {arcs.base}."] * bool(arcs.base)
-    comments += [] if arcs.scale is None else [files.scale_comment(arcs.scale)]
-    with naming(graph):
-        files.write_graph_columns(
-            graph, arcs.labels.count, (arcs.tails, arcs.heads, arcs.weights), comments)
+def write(arcs: Arcs, bends: Sequence[Integers] | None, folder: str) -> None:
+    """Writes the files of arcs and of their bends in columns, without their hierarchy."""
+    graph, coordinates, of_bends, labels = (
+        os.path.join(folder, name) for name in (GRAPH, COORDINATES, BENDS, LABELS))
+    with naming(graph), open(graph, "w") as file:
+        write_graph(arcs, file)
     with naming(coordinates):
         if arcs.places is not None:
-            files.write_coordinate_columns(
-                coordinates, [numpy.rint(part * 1e6).astype(numpy.int64) for part in arcs.places],
-                arcs.turns)
+            columns = [numpy.rint(part * 1e6).astype(numpy.int64) for part in arcs.places]
+            numbers = numpy.arange(1, arcs.labels.count + 1)
+            files.write_point_columns(coordinates, "co", [numbers, *columns], arcs.turns)
         if arcs.beside is not None:
-            arcs.beside.copy_to(folder)
-    with naming(bends):
-        if arcs.bends:
-            files.write_bends(bends, arcs.bends)
+            arcs.beside.write(folder)
+    with naming(of_bends):
+        if bends is not None:
+            files.write_point_columns(of_bends, "bends", bends)
     with naming(labels):
         files.write_labels(labels, labelling_of(arcs, digest_of(graph)))
-    if running.customizing is not None:
-        return save_customized(arcs, folder, running.customizing)
-    if running.like is None and running.workers == 1 and not running.progress:
-        return save_alone(arcs, calls, saved)
-    return build(program, graph, saved, running)
+
+
+def write_graph(arcs: Arcs, target: IO[str]) -> None:
+    """Writes the graph of arcs."""
+    comments = [f"Weights are {arcs.base}."] * bool(arcs.base)
+    comments += [] if arcs.scale is None else [files.scale_comment(arcs.scale)]
+    columns = arcs.tails, arcs.heads, arcs.weights
+    files.write_graph_columns(target, arcs.labels.count, columns, comments)
+
+
+def bend_columns(bends: Mapping[int, Sequence[Point]]) -> list[Integers]:
+    """The points of arcs in columns, as their file has them: arcs from 1 on, and millionths."""
+    points = [(arc + 1, x, y) for arc in sorted(bends) for x, y in bends[arc]]
+    arcs, *places = numpy.array(points, float).reshape(-1, 3).T
+    return [arcs.astype(numpy.int64), *(numpy.rint(x * 1e6).astype(numpy.int64) for x in places)]
 
 
 @contextlib.contextmanager
@@ -105,36 +108,35 @@ def naming(path: str) -> Iterator[None]:
         raise
 
 
-def labelling_of(arcs: Arcs, digest: str) -> files.Labelling:
-    """The content of the file of labels for arcs whose graph has this SHA-256."""
-    labels = arcs.labels.values.tolist() if isinstance(arcs.labels, Labels) else None
-    rows, index = (
-        None if column is None else column.tolist() for column in (arcs.arcs, arcs.index))
+def labelling_of(arcs: Arcs, digest: str | None = None) -> files.Labelling:
+    """What is known of arcs beside their labels, in arrays; or the content of the file of labels,
+    in lists, where the SHA-256 of the graph is given."""
+    columns: Any = None, arcs.arcs, arcs.index
+    if digest is not None:
+        own = arcs.labels.values if isinstance(arcs.labels, Labels) else None
+        columns = (each if each is None else each.tolist() for each in (own, *columns[1:]))
+    labels, rows, index = columns
     return files.Labelling(
-        labels, arcs.scale, arcs.rounding, digest, arcs.unit, arcs.rows, rows, arcs.keys, arcs.ways,
-        index)
+        labels, arcs.scale, arcs.rounding, digest or "", arcs.unit, arcs.rows, rows, arcs.keys,
+        arcs.ways, index)
 
 
 class Beside:
-    """The files of a network that a scenario copies: places and names of nodes, streets, ways."""
+    """Of a scenario the contents of the files that it takes over: of places, with comments that say
+    where trips end, and of names of nodes; and its own streets and ways."""
 
-    def __init__(
-        self, layers: Any, streets: files.Streets | None = None, ways: Sequence[int] | None = None
-    ) -> None:
-        base = os.path.splitext(layers.path)[0]
-        self.stamps, self.streets, self.ways = layers.stamps, streets, ways
-        self.paths = {COORDINATES: layers.paths["coordinates"], NAMES: base + ".nodes"}
+    def __init__(self, layers: Any, streets: files.Streets | None, ways: Integers | None) -> None:
+        self.contents, self.streets, self.ways = layers.contents, streets, ways
 
-    def copy_to(self, folder: str) -> None:
-        """Copies them with their comments, which say where trips end, if they have not changed."""
-        for name, path in self.paths.items():
-            if path is not None and os.path.exists(path):
-                shutil.copyfile(path, os.path.join(folder, name))
+    def write(self, folder: str) -> None:
+        """Writes the files."""
+        for name, content in zip((COORDINATES, NAMES), self.contents):
+            if content is not None:
+                pathlib.Path(folder, name).write_bytes(content)
         if self.streets is not None:
             files.write_streets(os.path.join(folder, STREETS), self.streets)
         if self.ways is not None:
-            files.write_ways(os.path.join(folder, WAYS), self.ways)
-        self.stamps.see_that_same()
+            files.write_ways(os.path.join(folder, WAYS), self.ways.tolist())
 
 
 def digest_of(path: str) -> str:
@@ -143,73 +145,56 @@ def digest_of(path: str) -> str:
         return hashlib.file_digest(file, "sha256").hexdigest()
 
 
-def build(program: str, graph: str, saved: str, running: Running) -> Handle | None:
-    """Builds and saves the hierarchy of a graph, by the program or the network `like`."""
-    like, workers = running.like, ["--workers", str(running.workers)]
-    if like is None:
-        running_of.save(program, graph, saved, ["--quick", *workers], running.progress)
-        return None
-    order = like._opened.setting.saved
-    if order is not None and os.path.exists(order) and (running.progress or running.workers > 1):
-        fresh = ["--like", order, "--fresh", str(running.fresh)]
-        running_of.save(program, graph, saved, [*fresh, *workers], running.progress)
-        return None
-    return save_like(like._engine, graph, saved, running.fresh)
+def is_by_program(running: Running) -> bool:
+    """Whether the program builds a network: in the order of another it needs that one's file."""
+    like, is_alone = running.like, not running.progress and running.workers == 1
+    is_here = is_alone or running.customizing is not None
+    return not is_here and (like is None or os.path.exists(like._opened.setting.saved or ""))
 
 
-def save_alone(arcs: Arcs, calls: ctypes.CDLL, saved: str) -> Handle:
-    """Builds the hierarchy of arcs in this process, and saves it; a handle of its network."""
+def build(program: str, folder: str, running: Running) -> None:
+    """Builds and saves the hierarchy of the graph in a folder by the program."""
+    graph, saved = (os.path.join(folder, name) for name in (GRAPH, SAVED))
+    like, words = running.like, ["--quick", "--workers", str(running.workers)]
+    if like is not None:
+        words[:1] = ["--like", like._opened.setting.saved, "--fresh", str(running.fresh)]
+    running_of.save(program, graph, saved, words, running.progress)
+
+
+def built(arcs: Arcs, calls: ctypes.CDLL, running: Running) -> Handle:
+    """Builds the hierarchy of arcs in this process: a handle in their network."""
+    if running.customizing is not None:
+        return running.customizing.handle(arcs.weights)
+    if running.like is not None:
+        text = io.BytesIO()
+        with io.TextIOWrapper(text, "ascii", write_through=True) as file:
+            write_graph(arcs, file)
+            return running.like._engine.opened_like(text.getvalue(), running.fresh)
     handle, nodes = library.Handle(calls), arcs.labels.count
     columns = library.columns_of(nodes, arcs.tails, arcs.heads, arcs.weights)
     interruptible(LONG, handle.open_arrays, nodes, *columns)
-    return saved_by(handle, saved, BYTES * (nodes + len(arcs.tails)))
-
-
-def save_customized(arcs: Arcs, folder: str, customizing: Customizing) -> Handle:
-    """Customizes the weights of arcs, and saves their hierarchy and its order; a handle."""
-    saved, order = (os.path.join(folder, name) for name in (SAVED, ORDER))
-    with naming(order):
-        customizing.keep(order)
-    room = BYTES * (arcs.labels.count + len(arcs.tails))
-    return saved_by(customizing.handle(arcs.weights), saved, room)
-
-
-def save_like(giver: InProcess, graph: str, saved: str, fresh: int) -> Handle:
-    """The same of a graph in the order of another network."""
-    with open(graph, "rb") as file:
-        handle = giver.opened_like(file.read(), fresh)
-    # Networks of the same nodes have texts of about one length.
-    known = giver.setting.saved
-    room = os.path.getsize(known) * 9 // 8 if known is not None and os.path.exists(known) else 0
-    return saved_by(handle, saved, room)
-
-
-def saved_by(handle: Handle, saved: str, room: int) -> Handle:
-    """Writes the hierarchy of a handle, which mostly has at most `room` bytes; the handle."""
-    with naming(saved), open(saved, "wb") as out:
-        out.write(handle.save(room))
     return handle
 
 
-def layers_of(arcs: Arcs) -> dict[str, Any]:
+def known_of(arcs: Arcs) -> dict[str, Any]:
     """The layers of a network that are known from its arcs, without its files."""
     unit = arcs.base if arcs.base in files.UNITS else ""
     tails, heads, weights = (fixed(column) for column in (arcs.tails, arcs.heads, arcs.weights))
-    layers: dict[str, Any] = {"graph": files.Graph(arcs.labels.count, tails, heads, weights, unit)}
-    if arcs.beside is not None:
-        return layers
-    layers |= {"labels": arcs.labels, "labelling": labelling_of(arcs, "")}
+    known: dict[str, Any] = {
+        "graph": files.Graph(arcs.labels.count, tails, heads, weights, unit),
+        "labels": arcs.labels, "labelling": labelling_of(arcs)}
     if arcs.places is not None:
         x, y = (fixed(numpy.rint(part * 1e6) / 1e6) for part in arcs.places)
-        layers["coordinates"] = files.Coordinates(x, y, [*arcs.turns])
-    return layers
+        known["coordinates"] = files.Coordinates(x, y, [*arcs.turns])
+    others = arcs.beside
+    known |= {"streets": others and others.streets, "ways": others and others.ways}
+    return known
 
 
 def read_labelling(path: str, graph: str) -> files.Labelling:
     """Reads the labels of a network, and refuses those of another graph."""
     found = files.read_labels(path)
-    if (
-        found.labels is not None and len(found.labels) != files.count_nodes(graph)
-        or found.graph != digest_of(graph)):
+    count = files.counts_in(graph)[0]
+    if len(found.labels or range(count)) != count or found.graph != digest_of(graph):
         raise FileFault(f"{path}: not the labels of {graph}")
     return found

@@ -8,18 +8,16 @@ import warnings
 from dataclasses import dataclass
 from typing import TYPE_CHECKING, Any
 
-from chtab._engine import folders, library, making
+from chtab._engine import library, making
 from chtab._engine.program import program_of
 from chtab._engine.progress import Asked as Progress
 from chtab._engine.running import see_to
-from chtab._engine.stamps import Stamp, Stamps, stamp_of
+from chtab._engine.stamps import Stamp, stamp_of
 from chtab.errors import ChtabError
 from chtab._files import measures
 
 if TYPE_CHECKING:
     from chtab._engine.customizing import Customizing
-    from chtab._engine.library import Handle
-    from chtab._files.arc_columns import Arcs
     from chtab.typing import Path
 
 # The most workers of the program.
@@ -28,7 +26,7 @@ MOST_WORKERS = 64
 
 @dataclass(frozen=True)
 class Setting:
-    """What an engine answers from, by paths."""
+    """What an engine answers from, by paths; the graph's is empty if no file has it yet."""
 
     program: str
     library: str
@@ -40,11 +38,7 @@ class Setting:
 
     def files(self) -> list[str]:
         """The files that the library opens: the graph, and the saved hierarchy if there is one."""
-        return [path for path in (self.graph, self.saved) if path is not None]
-
-    def stamps(self) -> Stamps:
-        """The stamps of the files, which show later whether one of them was replaced."""
-        return Stamps(*self.files())
+        return [path for path in (self.graph, self.saved) if path]
 
 
 @dataclass(frozen=True)
@@ -167,24 +161,3 @@ def see_that_readable(*paths: str | None) -> None:
     """Opens each file once, so that a file that can't be opened is an error now."""
     for path in filter(None, paths):
         open(path, "rb").close()
-
-
-def made(
-    arcs: Arcs, folder: Path | None, running: Running,
-) -> tuple[Opening, folders.Folder | None, Handle | None]:
-    """The opening of arcs, their folder if it is temporary, and a handle if there is one."""
-    program = program_of(running.program)
-    see_to(program)
-    # Said before a hierarchy is built.
-    calls = library.loaded(library_of(program, running.library))
-    if folder is not None:
-        with making.begun(folder) as part:
-            handle = making.write(arcs, part, program, calls, running)
-        return of_folder(os.path.realpath(folder), running), None, handle
-    kept = folders.Folder()
-    try:
-        handle = making.write(arcs, kept.path, program, calls, running)
-        return of_folder(kept.path, running), kept, handle
-    except BaseException:
-        kept.remove()
-        raise

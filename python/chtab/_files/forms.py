@@ -4,6 +4,7 @@ from __future__ import annotations
 
 import array
 import contextlib
+import io
 import itertools
 import os
 import secrets
@@ -27,6 +28,8 @@ def reading(source: Source, mode: str = "r") -> Iterator[Any]:
     opened: Any = contextlib.nullcontext(source)
     if isinstance(source, str | os.PathLike):
         opened = open(source, mode)
+    elif isinstance(source, bytes):
+        opened = io.BytesIO(source)
     with opened as file:
         try:
             yield file
@@ -45,7 +48,7 @@ def writing(target: Target, mode: str = "w") -> Iterator[IO[Any]]:
 
 
 def name_of(source: Source) -> str:
-    return str(getattr(source, "name", source))
+    return "a file" if isinstance(source, bytes) else str(getattr(source, "name", source))
 
 
 def columns(

@@ -10,7 +10,8 @@ from typing import TYPE_CHECKING, Any, NamedTuple
 
 from chtab.errors import FileFault
 from chtab._files.forms import (
-    ROWS_AT_ONCE, columns, comments_of, name_of, write_columns, write_comments, write_rows, writing)
+    ROWS_AT_ONCE, columns, comments_of, name_of, reading, write_columns, write_comments, write_rows,
+    writing)
 
 if TYPE_CHECKING:
     from chtab.typing import Path, Point, Source, Target
@@ -133,18 +134,8 @@ def unit_of(lines: Iterable[bytes]) -> str:
     return unit if unit in UNITS else ""
 
 
-def count_arcs(path: Path) -> int:
-    """How many arcs a graph's problem line declares, without the rest of the file."""
-    return counts_in(path)[1]
-
-
-def count_nodes(path: Path) -> int:
-    """How many nodes it declares."""
-    return counts_in(path)[0]
-
-
 def counts_in(path: Path) -> tuple[int, int]:
-    """How many nodes and arcs a graph's problem line declares."""
+    """How many nodes and arcs a graph's problem line declares, without the rest of the file."""
     with open(path, "rb") as file:
         for line in file:
             words = line.split()
@@ -235,9 +226,9 @@ def read_coordinates(source: Source) -> Coordinates:
     return Coordinates(longitudes, latitudes, comments_of(lines))
 
 
-def read_turns(path: Path) -> Coordinates:
+def read_turns(source: Source) -> Coordinates:
     """What a file of places (`.co`) says about restricted turns, without its places."""
-    with open(path, "rb") as file:
+    with reading(source, "rb") as file:
         return Coordinates(
             array.array("d"), array.array("d"),
             comments_of(itertools.takewhile(lambda line: line[:1] != b"v", file)))
@@ -309,16 +300,16 @@ def write_coordinates(
             ((node, round(x * 1e6), round(y * 1e6)) for node, (x, y) in enumerate(places, 1)))
 
 
-def write_coordinate_columns(
-    target: Target, columns_of_places: Sequence[Any], comments: Iterable[str] = ()
+def write_point_columns(
+    target: Target, kind: str, columns_of_points: Sequence[Any], comments: Iterable[str] = ()
 ) -> None:
-    """Writes the nodes' places from arrays of millionths of a degree."""
-    count = len(columns_of_places[0])
+    """Writes places of nodes (`co`) or points of arcs (`bends`) from arrays: numbers from 1 on, and
+    millionths of a degree."""
+    letter = "v" if kind == "co" else "b"
     with writing(target) as file:
         write_comments(file, comments)
-        file.write(f"p aux sp co {count}\n")
-        write_columns(
-            file, "v %d %d %d\n", [array.array("q", range(1, count + 1)), *columns_of_places])
+        file.write(f"p aux sp {kind} {len(columns_of_points[0])}\n")
+        write_columns(file, f"{letter} %d %d %d\n", columns_of_points)
 
 
 def read_bends(source: Source) -> dict[int, list[Point]]:

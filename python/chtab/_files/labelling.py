@@ -15,7 +15,8 @@ if TYPE_CHECKING:
 
 
 class Labelling(NamedTuple):
-    """The labels of nodes, and where the weights of the graph are from."""
+    """The labels of nodes, and where the weights of the graph are from. In place of lists of labels
+    of rows and of rows there may be arrays, and those of nodes are left out, where none is read."""
 
     # A list of `int`, of `str` or of tuples, no two equal; None: nodes are called by their numbers.
     labels: Any
@@ -27,12 +28,12 @@ class Labelling(NamedTuple):
     unit: str | None = None
     # The number of the caller's rows, and the row of each arc if it isn't arc modulo `rows`.
     rows: int | None = None
-    arcs: list[int] | None = None
+    arcs: Any = None
     # The key of each row in a graph with several edges between two nodes, and its ways on the map.
     keys: list[Any] | None = None
     ways: list[list[int]] | None = None
     # What the first rows are called; None for 0, 1, .., and empty if that is not known.
-    row_labels: list[Any] | None = None
+    row_labels: Any = None
 
 
 def write_labels(target: Target, labelling: Labelling) -> None:

@@ -4,6 +4,7 @@ from __future__ import annotations
 
 import collections
 import itertools
+import sys
 from collections.abc import Iterable, Sequence
 from typing import TYPE_CHECKING, Any, TypeAlias
 
@@ -20,6 +21,8 @@ if TYPE_CHECKING:
     from chtab.typing import Column, Integers, LabelArray
 
 Label: TypeAlias = int | str
+# A range of so many numbers for each label is too large to be marked.
+SPARSE = 4
 
 
 def fixed(column: Any) -> Any:
@@ -216,17 +219,39 @@ def labels_of_ends(
         text = f"the label {quoted(firsts[1])} is not one of {kinds[0]}, as those of {names[0]}"
         raise columns.refused(names[1], 0, text)
     if sources.dtype == targets.dtype == numpy.int64:
-        values, places = numpy.unique(numpy.concatenate([sources, targets]), return_inverse=True)
+        values, places = ordered_numbers(numpy.concatenate([sources, targets]))
     else:
         values, places = ordered([*sources.tolist(), *targets.tolist()])
     return Labels(values), places.reshape(2, -1) + 1
 
 
-def ordered(labels: Sequence[Label]) -> tuple[LabelArray, Integers]:
-    """The labels of a list in ascending order, each once, and the place of each item there."""
+def ordered_numbers(labels: Integers) -> tuple[Integers, Integers]:
+    """The labels of an array in ascending order, each once, and the place of each item there."""
+    low, high = (int(labels.min()), int(labels.max())) if len(labels) else (0, 0)
+    if high - low > SPARSE * len(labels):
+        return numpy.unique(labels, return_inverse=True)
+    # Marks of all numbers in so small a range take less time than a sort.
+    is_there, places = numpy.zeros(high - low + 1, bool), labels - low
+    is_there[places] = True
+    return numpy.flatnonzero(is_there) + low, (numpy.cumsum(is_there) - 1)[places]
+
+
+def numbered(labels: Sequence[Any]) -> tuple[Integers, list[Label]]:
+    """The labels of a list, each once as they first come, and the place of each item there."""
+    factorize: Any = getattr(sys.modules.get("pandas"), "factorize", None)
+    text = "".join(labels) if factorize and isinstance(labels[0], str) else "\0"
+    if text.isascii() and "\0" not in text:
+        # Its table takes a third of the time, but ends strings at a NUL.
+        found, known = factorize(columns.objects_of(labels))
+        return found, known.tolist()
     numbers: dict[Label, int] = collections.defaultdict(itertools.count().__next__)
     found = numpy.fromiter(map(numbers.__getitem__, labels), numpy.int64, len(labels))
-    known = list(numbers)
+    return found, list(numbers)
+
+
+def ordered(labels: Sequence[Label]) -> tuple[LabelArray, Integers]:
+    """The labels of a list in ascending order, each once, and the place of each item there."""
+    found, known = numbered(labels)
     try:
         order = numpy.array(sorted(range(len(known)), key=known.__getitem__), numpy.int64)
     except TypeError:

@@ -36,7 +36,7 @@ def kept(index: Any, rows: int) -> LabelArray | None:
     except DataFault:
         return UNKNOWN
     are_numbers = labels.dtype == numpy.int64 and numpy.array_equal(labels, numpy.arange(rows))
-    return None if are_numbers else labels
+    return None if are_numbers else labels.copy()
 
 
 def index_of(column: Any) -> Any:

@@ -113,11 +113,12 @@ def side_by_side(engine: InProcess, found: Iterable[Block], make: Make, workers:
 
 def on_cluster(engine: InProcess, found: Iterable[Block], make: Make, client: Any) -> Made:
     """Makes blocks by the workers of a cluster, which send rows; values are made here."""
-    deadline, left = deadlines.current(engine.setting.timeout), iter(found)
+    setting = engine.setting if engine.made is None else engine.made.opening().setting
+    deadline, left = deadlines.current(setting.timeout), iter(found)
     with cluster.Tasks(client) as tasks:
         def begin() -> None:
             for block in left:
-                tasks.begin(block, rows_on_worker, engine.setting, block.question)
+                tasks.begin(block, rows_on_worker, setting, block.question)
                 return
 
         for _ in range(AHEAD * cluster.threads_of(client)):

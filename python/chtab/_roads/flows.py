@@ -8,7 +8,6 @@ from typing import TYPE_CHECKING, Any, NamedTuple
 
 import numpy
 
-from chtab import files
 from chtab.errors import DataFault
 from chtab._files import columns
 from chtab._files.arc_columns import scale_in
@@ -43,7 +42,7 @@ class PairTrips(NamedTuple):
         self, engine: InProcess, layers: Layers, progress: Progress = None,
     ) -> tuple[int, Unsigned]:
         """How many pairs have no route, and the flow on each arc of the graph."""
-        pairs, lines = with_ends(layers, self.pairs), files.count_arcs(layers.path)
+        pairs, lines = with_ends(layers, self.pairs), layers.counts[1]
         return engine.flows(pairs, self.demands.whole, lines, progress)
 
 
@@ -58,7 +57,7 @@ class TableTrips(NamedTuple):
         self, engine: InProcess, layers: Layers, progress: Progress = None,
     ) -> tuple[int, Unsigned]:
         """How many pairs have no route, and the flow on each arc of the graph."""
-        ends, lines = layers.ends_of(self.destinations), files.count_arcs(layers.path)
+        ends, lines = layers.ends_of(self.destinations), layers.counts[1]
         return engine.flows_table(self.origins, ends, self.demands.whole, lines, progress)
 
 

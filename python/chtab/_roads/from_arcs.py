@@ -103,7 +103,9 @@ def with_nodes_of(given: arc_columns.Columns, like: Any) -> arc_columns.Columns:
     if like is None or given.nodes is not None:
         return given
     given = dataclasses.replace(given, nodes=like.labels)
-    if like._layers.paths["coordinates"] is None or given.x is not None or given.y is not None:
+    layers = like._layers
+    has_places = "coordinates" in layers.kept or layers.paths["coordinates"] is not None
+    if not has_places or given.x is not None or given.y is not None:
         return given
     with known_to_be_closed(like):
         places = like.coordinates
@@ -112,8 +114,7 @@ def with_nodes_of(given: arc_columns.Columns, like: Any) -> arc_columns.Columns:
 
 def with_turns_of(arcs: arc_columns.Arcs, like: Any) -> arc_columns.Arcs:
     """The same arcs with restricted turns as a network has them; they have to lead to its ends."""
-    has_places = arcs.places is not None and like._layers.paths["coordinates"] is not None
-    if not has_places or not like.coordinates.turns():
+    if arcs.places is None or not like._layers.turns.turns():
         return arcs
     ends = like._layers.ends
     is_met = numpy.zeros(len(ends), bool)

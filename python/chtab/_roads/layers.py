@@ -5,14 +5,16 @@ from __future__ import annotations
 import array
 import itertools
 import os
+import pathlib
 import threading
-from collections.abc import Callable, Mapping
+from collections.abc import Callable
 from typing import TYPE_CHECKING, Any, Generic, TypeVar
 
 import numpy
 
 from chtab import files
-from chtab._engine import forks
+from chtab._engine import forks, making
+from chtab._engine.made import Made
 from chtab._engine.stamps import Stamps
 from chtab.errors import ChtabError
 from chtab._files import measures, node_labels
@@ -55,20 +57,29 @@ def of_files(make: Callable[[Any], Value]) -> Kept[Value]:
 
 
 class Layers:
-    """The files of a network, which threads may share; pickled, it has their names alone."""
+    """The files of a network, which threads may share; pickled, it has their names alone. Of arcs
+    in memory all is known without their files."""
 
-    def __init__(
-        self, path: str, coordinates: str | None = None, bends: str | None = None,
-        labelling: str | None = None, asked: measures.Asked = measures.Asked(),
-    ) -> None:
-        base = os.path.splitext(path)[0]
-        self.path, self.asked = path, asked
-        self.paths = {
-            "coordinates": coordinates or beside(base + ".co"),
-            "bends": bends or beside(base + ".bends"), "labelling": labelling,
-            "streets": beside(base + ".names"), "ways": beside(base + ".ways")}
+    def __init__(self, files_of: Opening | Made) -> None:
+        self.files_of, self.asked = files_of, files_of.asked
+        opened = files_of.opened if isinstance(files_of, Made) else files_of
+        if opened is not None:
+            base, self.path = os.path.splitext(opened.setting.graph)[0], opened.setting.graph
+            # Paths, or the contents of files that are in memory.
+            self.paths: dict[str, Any] = {
+                "coordinates": opened.coordinates or beside(base + ".co"),
+                "bends": opened.bends or beside(base + ".bends"), "labelling": opened.labelling,
+                "streets": beside(base + ".names"), "ways": beside(base + ".ways")}
+            self.stamps = Stamps(self.path, *self.paths.values())
+            self.paths["names"] = beside(base + ".nodes")
         self.kept: dict[str, Any] = {}
-        self.stamps = Stamps(path, *self.paths.values())
+        if isinstance(files_of, Made):
+            self.kept |= making.known_of(files_of.arcs)
+        if isinstance(files_of, Made) and opened is None:
+            self.path, self.stamps = f"a network of {len(files_of.arcs.tails):,} arcs", Stamps()
+            others = files_of.arcs.beside
+            places, names = (None, None) if others is None else others.contents
+            self.paths = {"coordinates": places, "names": names, "bends": files_of.bends}
         self.leave_parent()
         forks.follow(self)
 
@@ -77,8 +88,8 @@ class Layers:
         self.lock = threading.RLock()
 
     def __reduce__(self) -> tuple[Any, ...]:
-        paths = [self.paths[name] for name in ("coordinates", "bends", "labelling")]
-        return Layers, (self.path, *paths, self.asked)
+        own = self.files_of
+        return Layers, (own.opening() if isinstance(own, Made) else own,)
 
     @of_files
     def graph(self) -> files.Graph:
@@ -88,10 +99,22 @@ class Layers:
         return found._replace(**columns)
 
     @of_files
+    def counts(self) -> tuple[int, int]:
+        """How many nodes and arcs there are."""
+        graph = self.kept.get("graph")
+        return files.counts_in(self.path) if graph is None else (graph.nodes, len(graph.tails))
+
+    @of_files
+    def contents(self) -> list[bytes | None]:
+        """The files of the places and of the names of nodes, for networks with the same nodes."""
+        paths = self.paths["coordinates"], self.paths["names"]
+        return [pathlib.Path(it).read_bytes() if isinstance(it, str) else it for it in paths]
+
+    @of_files
     def streets(self) -> files.Streets | None:
         """What the arcs are called; None without a file of names beside the graph."""
         path = self.paths["streets"]
-        return None if path is None else files.read_streets(path, files.count_arcs(self.path))
+        return None if path is None else files.read_streets(path, self.counts[1])
 
     @of_files
     def ways(self) -> Integers | None:
@@ -99,7 +122,7 @@ class Layers:
         path = self.paths["ways"]
         if path is None:
             return None
-        return numpy.asarray(files.read_ways(path, files.count_arcs(self.path)), numpy.int64)
+        return numpy.asarray(files.read_ways(path, self.counts[1]), numpy.int64)
 
     @Kept
     def rows_by_way(self) -> dict[int, list[int]]:
@@ -114,7 +137,7 @@ class Layers:
     @Kept
     def crossings(self) -> Integers:
         """The first node of each node's crossing, from place 1 on."""
-        found = numpy.arange(files.count_nodes(self.path) + 1)
+        found = numpy.arange(self.counts[0] + 1)
         for copy, node in self.turns.copies().items():
             self.see_that_node(copy, node)
             found[copy] = node
@@ -128,7 +151,7 @@ class Layers:
     @Kept
     def ends(self) -> Integers:
         """The node where trips to each node end, from place 1 on; 0 for the node itself."""
-        found = numpy.zeros(files.count_nodes(self.path) + 1, numpy.int64)
+        found = numpy.zeros(self.counts[0] + 1, numpy.int64)
         for node, end in self.turns.ends().items():
             self.see_that_node(node, end)
             found[node] = end
@@ -137,12 +160,12 @@ class Layers:
     @of_files
     def turns(self) -> files.Coordinates:
         """What the file of places says about nodes where turns are restricted."""
-        path = self.paths["coordinates"]
-        return NO_TURNS if path is None else self.kept.get("coordinates") or files.read_turns(path)
+        known, path = self.kept.get("coordinates"), self.paths["coordinates"]
+        return known or (NO_TURNS if path is None else files.read_turns(path))
 
     def see_that_node(self, *nodes: int) -> None:
         """Refuses the places of another graph, which name nodes that are not there."""
-        if max(nodes) > files.count_nodes(self.path):
+        if max(nodes) > self.counts[0]:
             raise files.FileFault(
                 f"{self.paths['coordinates']}: node {max(nodes):,} is not in {self.path}: these "
                 "are the places of another graph")
@@ -187,7 +210,7 @@ class Layers:
     def row_count(self) -> int:
         """The number of rows of arcs, including those whose arcs are closed."""
         count = None if self.labelling is None else self.labelling.rows
-        return files.count_arcs(self.path) if count is None else count
+        return self.counts[1] if count is None else count
 
     @Kept
     def row_labels(self) -> RowLabels:
@@ -208,8 +231,10 @@ class Layers:
         """The nodes' places, as `files.read_coordinates` gives them."""
         path = self.paths["coordinates"]
         if not path:
-            raise ChtabError(
-                f"{self.path} has no file of coordinates beside it; name one by `coordinates`")
+            hint = "no file of coordinates beside it; name one by `coordinates`"
+            if isinstance(self.files_of, Made):
+                hint = "no places of its nodes; `x` and `y` give them"
+            raise ChtabError(f"{self.path} has {hint}")
         longitudes, latitudes, comments = files.read_coordinates(path)
         self.see_that_node(len(longitudes))
         return files.Coordinates(fixed(longitudes), fixed(latitudes), comments)
@@ -217,15 +242,14 @@ class Layers:
     @of_files
     def labelling(self) -> files.Labelling | None:
         """What `files.read_labels` gives; None if nodes are called by their numbers."""
-        from chtab._engine.making import read_labelling
-
         path = self.paths["labelling"]
-        return None if path is None else read_labelling(path, self.path)
+        return None if path is None else making.read_labelling(path, self.path)
 
     @of_files
     def measure(self) -> measures.Measure:
         """The unit of limits and answers."""
-        base, labelling, asked = files.read_unit(self.path), self.labelling, self.asked
+        graph, labelling, asked = self.kept.get("graph"), self.labelling, self.asked
+        base = files.read_unit(self.path) if graph is None else graph.unit
         if asked.raw:
             return measures.Measure(base)
         own = (None, None) if labelling is None else (labelling.unit, labelling.scale)
@@ -236,7 +260,7 @@ class Layers:
         """What the nodes are called, as `node_labels.Labels` or `node_labels.Numbers`."""
         found = self.labelling
         if found is None or found.labels is None:
-            return node_labels.Numbers(files.count_nodes(self.path))
+            return node_labels.Numbers(self.counts[0])
         return node_labels.labels_of_nodes("labels", found.labels)
 
     @Kept
@@ -255,8 +279,8 @@ class Layers:
     def bends(self) -> Bends:
         """The points of arcs between their ends; none without a file of these."""
         path = self.paths["bends"]
-        found: list[Any] = [[], [], []] if path is None else columns(path, b"b", 3)[0]
-        return bends_in(found, files.count_arcs(self.path), str(path))
+        found = columns(path, b"b", 3)[0] if isinstance(path, str) else path or [[], [], []]
+        return bends_in(found, self.counts[1], str(path))
 
     def lines_of(self, starts: Integers, counts: Integers, arcs: Integers) -> list[list[Point]]:
         """The places along routes, with bends if known: route k has `counts[k]` of the arcs."""
@@ -270,11 +294,9 @@ class Layers:
         return [line for line, _ in tidied(self.roads.lines_of(starts, counts, arcs))]
 
 
-def layers_of(opened: Opening, known: Mapping[str, Any] | None = None) -> Layers:
-    """The layers of an opening and what is known, with labels and the unit of these files."""
-    layers = Layers(
-        opened.setting.graph, opened.coordinates, opened.bends, opened.labelling, opened.asked)
-    layers.kept.update(known or {})
+def layers_of(files_of: Opening | Made) -> Layers:
+    """The layers of files or of arcs, with labels and the unit."""
+    layers = Layers(files_of)
     layers.labels, layers.measure
     return layers
 

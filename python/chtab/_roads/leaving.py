@@ -1,11 +1,12 @@
 """The nodes where trips leave roads and come to them, with the weights of the way there."""
 from __future__ import annotations
 
-from typing import TYPE_CHECKING, NamedTuple
+from typing import TYPE_CHECKING, Any, NamedTuple
 
 import numpy
 
 if TYPE_CHECKING:
+    from numpy.typing import NDArray
     from chtab.typing import Integers, Marks
 
 # No arc leads along a road in this direction, or no trip leaves or arrives by this end.
@@ -22,8 +23,9 @@ class Ways(NamedTuple):
 class BothWays(NamedTuple):
     """The ways out of roads in `outs` columns, and those into them; which have the last place."""
 
-    nodes: Integers
-    weights: Integers
+    # Numbers of 32 bits where these fit, and else of 64.
+    nodes: NDArray[Any]
+    weights: NDArray[Any]
     outs: int
     is_last: Marks
 
@@ -32,8 +34,14 @@ def both_ways(out: Ways, into: Ways) -> BothWays:
     """The ways out of roads and into them."""
     widths = out.nodes.shape[1], into.nodes.shape[1]
     is_last = numpy.concatenate([numpy.arange(width) >= width // 2 for width in widths])
-    nodes, weights = (numpy.ascontiguousarray(numpy.hstack(pair)) for pair in zip(out, into))
+    nodes, weights = (narrow(numpy.hstack(pair)) for pair in zip(out, into))
     return BothWays(nodes, weights, widths[0], is_last)
+
+
+def narrow(numbers: Integers) -> NDArray[Any]:
+    """The same numbers, in 32 bits if they fit."""
+    fits = numbers.min(initial=0) >= -2**31 and numbers.max(initial=0) < 2**31
+    return numpy.ascontiguousarray(numbers, numpy.int32 if fits else numpy.int64)
 
 
 def ways_of(

@@ -219,7 +219,13 @@ def many_ways(
     """The least weights of the ways by nodes from each spot to each, and which way this is."""
     outs, out_place = different_nodes(starts.out_nodes)
     ins, in_place = different_nodes(ends.in_nodes)
-    nodes = node_weights(trips, outs, ins, within)
+    return least_ways(node_weights(trips, outs, ins, within), starts, out_place, ends, in_place)
+
+
+def least_ways(
+    nodes: Integers, starts: Spots, out_place: Integers, ends: Spots, in_place: Integers,
+) -> tuple[Integers, Integers]:
+    """The same by the weights between nodes, with the places of the spots' nodes there."""
     best, ways = numpy.empty((2, len(starts), len(ends)), numpy.int64)
     # Where turns are restricted few roads have nodes beside the first one of each end.
     out = (starts.out_nodes > 0).any(axis=0).nonzero()[0]

@@ -14,6 +14,7 @@ import numpy
 
 from chtab._engine.walks import ranges
 from chtab._roads import sphere
+from chtab._roads.leaving import narrow
 from chtab._roads.sphere import points
 
 if TYPE_CHECKING:
@@ -220,7 +221,7 @@ class Pieces:
         lengths = numpy.sqrt(ways[:, 0] * ways[:, 0] + ways[:, 1] * ways[:, 1])
         most = lengths.mean() or 1.0
         counts = numpy.maximum(numpy.ceil(lengths / most), 1).astype(int)
-        self.steps = numpy.repeat(steps, counts)
+        self.steps = narrow(numpy.repeat(steps, counts))
         shares = (ranges(numpy.zeros(len(steps), int), counts) + 0.5) / numpy.repeat(counts, counts)
         self.middles = self.at(self.steps, shares)
         self.tree = tree_of(self.middles)

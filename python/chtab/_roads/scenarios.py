@@ -8,7 +8,6 @@ from typing import TYPE_CHECKING, Any, NamedTuple
 
 import numpy
 
-from chtab import files
 from chtab._engine import customizing, making, opening
 from chtab.errors import DataFault
 from chtab._files import arc_columns, columns, edge_lines, measures
@@ -53,7 +52,7 @@ def weighing_of(layers: Layers, measure: measures.Measure, has_weights: bool) ->
             "numbers", "weights")
     is_rounded = own == 1 or made is not None and made.unit is not None
     whole = 1 if is_rounded and not layers.asked.raw else None
-    most = arc_columns.MOST_WEIGHT // files.count_nodes(layers.path)
+    most = arc_columns.MOST_WEIGHT // layers.counts[0]
     return Weighing(measure, whole if measure.is_whole else measure.factor, most)
 
 
@@ -267,16 +266,15 @@ class Given(NamedTuple):
         tails, heads, weights = (
             numpy.append(column[kept], more) for column, more in (
                 (self.tails, new.tails), (self.heads, new.heads), (self.weights, new.weights)))
-        no_way: list[int] = []
-        of_rows = (
-            None if labelling is None or labelling.ways is None
-            else [*labelling.ways, *[no_way] * new.added])
+        known = None if layers.paths["coordinates"] else layers.kept.get("coordinates")
+        own = labelling and labelling.ways
+        of_rows = None if own is None else own + [[]] * new.added
         return arc_columns.Arcs(
             layers.labels, tails, heads, weights, scale, max(before, rounding, new.rounding), unit,
-            None, self.bends(kept, new), self.row_count + new.added, self.rows_of(kept, new), keys,
-            of_rows, layers.graph.unit,
-            making.Beside(layers, streets, None if ways is None else ways.tolist()),
-            layers.row_labels.labels)
+            known and known[:2], self.bends(kept, new), self.row_count + new.added,
+            self.rows_of(kept, new), keys, of_rows, layers.graph.unit,
+            making.Beside(layers, streets, ways), layers.row_labels.labels,
+            known.comments if known else ())
 
     def rows_of(self, kept: Marks, new: New) -> Integers | None:
         """The row of each arc; None if arcs have the same rows as by their numbers."""
@@ -307,7 +305,7 @@ def order_of(layers: Layers, order: Any) -> bytes | str | None:
         opening.see_that_readable(path)
         return path
     nodes = layers.labels.nodes_of("order", order if hasattr(order, "__len__") else [*order])
-    count = files.count_nodes(layers.path)
+    count = layers.counts[0]
     if nodes.ndim != 1 or not numpy.array_equal(numpy.sort(nodes), numpy.arange(1, count + 1)):
         raise DataFault(f"order does not have each of the {count:,} nodes once", "order")
     return customizing.lines_of(nodes)

@@ -353,7 +353,7 @@ class Roads:
         """Makes the spots of places with their ways out and in, whose weights are rounded."""
         metres = metres_between(places[:, 0], places[:, 1], longitudes, latitudes)
         ways = self.ways
-        nodes, weights = ways.nodes.take(roads, axis=0), ways.weights.take(roads, axis=0)
+        nodes, weights = (column.take(roads, axis=0).astype(numpy.int64) for column in ways[:2])
         column = parts[:, None]
         along = numpy.where(ways.is_last, 1 - column, column)
         weights = numpy.where(nodes == NONE, NONE, numpy.rint(along * weights).astype(numpy.int64))

@@ -14,6 +14,7 @@ from typing import TYPE_CHECKING, NamedTuple
 import numpy
 
 from chtab.files import Street
+from chtab._roads.leaving import narrow
 from chtab._roads.lines import ranges
 from chtab._roads.snapping import NONE
 
@@ -79,13 +80,13 @@ class Crossings:
         self.roads = roads
         self.streets = [Street(), *(streets.streets if streets else ())]
         self.side = streets and streets.side
-        self.street_of_arc = (
+        self.street_of_arc = narrow(
             numpy.array(streets.of_arcs, numpy.int64) if streets
             else numpy.zeros(len(roads.tails), numpy.int64))
         self.crossing = numpy.arange(len(roads.places) + 1)
         for copy, node in copies.items():
             self.crossing[copy] = node
-        self.leads = leading(roads.lines)
+        self.leads = narrow(leading(roads.lines))
         self.find_ends()
         self.find_open()
         self.judge_streets()
@@ -94,7 +95,7 @@ class Crossings:
         """Finds the ends at each crossing, clockwise from north: those of crossing c are
         `ends[firsts[c]:firsts[c + 1]]`."""
         nodes = numpy.column_stack([self.roads.firsts, self.roads.lasts]).reshape(-1)
-        self.ends = numpy.lexsort([numpy.arange(len(nodes)), self.leads, nodes])
+        self.ends = narrow(numpy.lexsort([numpy.arange(len(nodes)), self.leads, nodes]))
         self.firsts = numpy.searchsorted(nodes[self.ends], numpy.arange(len(self.crossing) + 1))
 
     def find_open(self) -> None:
@@ -109,7 +110,7 @@ class Crossings:
         order = numpy.lexsort([kept, self.roads.weights[kept]])[::-1]
         known = numpy.full(len(self.leads), -1)
         known[ends[order]] = self.street_of_arc[kept[order]]
-        self.street_of = (
+        self.street_of = narrow(
             numpy.where(known < 0, known.reshape(-1, 2)[:, ::-1].reshape(-1), known).clip(0))
 
     def behind_turns(self, tails: Integers, ends: Integers) -> Integers:

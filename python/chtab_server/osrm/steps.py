@@ -27,6 +27,8 @@ if TYPE_CHECKING:
     from chtab_server.osrm.rides import Passages, Pieces
     from chtab.typing import Floats, Integers
 
+# The text of JSON of a text.
+quoted = json.JSONEncoder().encode
 # The text of a maneuver that continues a street, and that of one onto another street.
 CONTINUES, TURNS = (f'"type": "{TYPES[kind]}"' for kind in (CONTINUE, TURN))
 # The types of maneuvers at rings with names of their own.
@@ -72,18 +74,22 @@ class Steps:
 
     def __init__(self, crossings: Crossings, mode: str) -> None:
         self.known, self.passing, self.streets = crossings, Passing(crossings), crossings.streets
-        self.names = [json.dumps(street.name) for street in crossings.streets]
+        self.names = [quoted(street.name) for street in crossings.streets]
         side = f', "driving_side": "{crossings.side}"' if crossings.side else ""
-        # The text of a step from behind its weight up to its line: the names of its street, and the
-        # way of travelling along it.
-        self.called = [f", {called(street)}" for street in crossings.streets]
+        # The way of travelling along a street as the text of a step between its names and its line,
+        # and this text with the names before it.
+        along, across = (
+            f', "mode": "{each}"{side}, "geometry": ' for each in (mode, FERRY))
         self.modes = [
-            f', "mode": "{FERRY if street.highway == FERRY else mode}"{side}, "geometry": '
-            for street in crossings.streets]
-        self.members = column_of(list(map(str.__add__, self.called, self.modes)))
+            across if street.highway == FERRY else along for street in crossings.streets]
+        self.members = column_of([
+            f", {called(street, name)}{way}"
+            for street, name, way in zip(crossings.streets, self.names, self.modes)])
         # What signs call a street, as the inside of a text of JSON; and numbers that are equal for
         # streets with the same name, 0 for none.
-        self.signs = [json.dumps(street.name or street.ref)[1:-1] for street in crossings.streets]
+        self.signs = [
+            (name if street.name else quoted(street.ref))[1:-1]
+            for street, name in zip(crossings.streets, self.names)]
         numbers = {"": 0}
         self.name_numbers = numpy.array([
             numbers.setdefault(street.name, len(numbers)) for street in crossings.streets])
@@ -172,7 +178,7 @@ class Steps:
         """The text of a step at a ring from behind its weight up to its line. `name` is a street
         with the ring's own name, or -1."""
         more = f', "rotary_name": {self.names[name]}' if name >= 0 else ""
-        return f"{self.called[street]}{more}{self.modes[along]}"
+        return f", {called(self.streets[street], self.names[street])}{more}{self.modes[along]}"
 
 
 def ring_maneuver_anew(text: str, old: str, new: str, exit: int) -> str:
@@ -193,12 +199,10 @@ def summary(names: Sequence[str], metres: Sequence[float]) -> str:
     return f'"{", ".join([name for name in lengths if name in longest])}"'
 
 
-def called(street: Street) -> str:
-    """What a step on a street is called: its name, and what else signs have of it."""
-    members = {
-        "name": street.name,
-        **{key: getattr(street, key) for key in ("ref", "destinations") if getattr(street, key)}}
-    return json.dumps(members)[1:-1]
+def called(street: Street, name: str) -> str:
+    """What a step on a street is called: its name as a text of JSON, and what else signs have."""
+    more = (("ref", street.ref), ("destinations", street.destinations))
+    return f'"name": {name}' + "".join([f', "{key}": {quoted(text)}' for key, text in more if text])
 
 
 class Measured(NamedTuple):

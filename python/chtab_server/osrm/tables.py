@@ -6,18 +6,19 @@ from typing import TYPE_CHECKING, Any
 import numpy
 
 from chtab._roads.legs import (
-    FAR, NOWHERE, are_few, between_nodes, by_ways, few_nodes, few_totals, few_ways, metres_of,
-    stay_on_roads, table_ways,
+    FAR, NOWHERE, are_few, between_nodes, by_ways, different_nodes, few_nodes, few_totals, few_ways,
+    least_ways, metres_of, stay_on_roads, table_ways,
 )
 from chtab._roads.snapping import NANOMETRE
 
 if TYPE_CHECKING:
-    from chtab._roads.snapping import Spots
+    from chtab._roads.snapping import Roads, Spots
     from chtab._roads.trips import Trips
     from chtab.typing import Floats, Integers
 
-# How many cells' metres are found at once.
-BATCH = 1 << 17
+# How many cells' metres are found at once, and the most cells between nodes that are asked for at
+# once.
+BATCH, MOST = 1 << 17, 1 << 24
 
 
 def table_weights(trips: Trips, starts: Spots, ends: Spots) -> Integers:
@@ -34,48 +35,66 @@ def table_weights(trips: Trips, starts: Spots, ends: Spots) -> Integers:
     return best
 
 
-def weights_and_metres(
-    trips: Trips, starts: Spots, ends: Spots,
-) -> tuple[Integers, Floats]:
-    """The least weights of a table, `FAR` for no way, and the metres of its ways. One call of the
-    library gives both if there are few."""
-    if not are_few(starts, ends):
-        best, ways = table_ways(trips, starts, ends)
-        return best, metres_of_cells(trips, starts, ends, best, ways, None)
+def weights_and_metres(trips: Trips, starts: Spots, ends: Spots) -> tuple[Integers, Floats]:
+    """The least weights of a table, `FAR` for no way, and the metres of its ways. The same calls of
+    the library give both, and as many searches as the weights alone."""
+    if are_few(starts, ends):
+        return few_with_metres(trips, starts, ends)
+    cells = int((starts.out_nodes > 0).sum()) * int((ends.in_nodes > 0).sum())
+    height = max(1, len(starts) * MOST // max(1, cells))
+    rows = (slice(first, first + height) for first in range(0, len(starts), height))
+    found = [many_with_metres(trips, starts[some], ends) for some in rows]
+    best, metres = (numpy.concatenate(parts) for parts in zip(*found))
+    return best, metres
+
+
+def few_with_metres(trips: Trips, starts: Spots, ends: Spots) -> tuple[Integers, Floats]:
+    """The same of a few spots."""
     found = trips.engine.table_sums(*few_nodes(starts, ends), trips.roads.nanometres)
     cells, sums = few_ways(found[0], starts, ends), by_ways(found[1], starts, ends)
     best, ways = cells.min(axis=0), cells.argmin(axis=0)
     lengths = numpy.take_along_axis(sums, ways[None], axis=0)[0]
-    stay_on_roads(trips.roads, starts, ends, best, ways)
-    best[best > NOWHERE // 2] = FAR
-    return best, metres_of_cells(trips, starts, ends, best, ways, lengths)
+    return best, metres_of_cells(trips.roads, starts, ends, best, ways, lengths)
+
+
+def many_with_metres(trips: Trips, starts: Spots, ends: Spots) -> tuple[Integers, Floats]:
+    """The same of many spots, whose nodes are searched from once each."""
+    outs, out_place = different_nodes(starts.out_nodes)
+    ins, in_place = different_nodes(ends.in_nodes)
+    nodes, sums = node_sums(trips, outs, ins)
+    best, ways = least_ways(nodes, starts, out_place, ends, in_place)
+    out, into = numpy.divmod(ways, ends.in_nodes.shape[1])
+    rows, columns = numpy.arange(len(starts))[:, None], numpy.arange(len(ends))
+    lengths = sums[out_place[rows, out], in_place[columns, into]]
+    return best, metres_of_cells(trips.roads, starts, ends, best, ways, lengths)
+
+
+def node_sums(trips: Trips, outs: Integers, ins: Integers) -> tuple[Integers, Any]:
+    """The weights from each node to each, `NOWHERE` if no way leads, or if one is missing, and the
+    nanometres along these ways."""
+    is_out, is_in = outs > 0, ins > 0
+    weights = numpy.full((len(outs), len(ins)), NOWHERE)
+    sums = numpy.zeros(weights.shape, numpy.uint64)
+    found = trips.engine.table_sums(outs[is_out], ins[is_in], trips.roads.nanometres)
+    found[0][found[0] < 0] = NOWHERE
+    there = numpy.ix_(is_out, is_in)
+    weights[there], sums[there] = found
+    return weights, sums
 
 
 def metres_of_cells(
-    trips: Trips, starts: Spots, ends: Spots, best: Integers, ways: Integers, lengths: Any,
+    roads: Roads, starts: Spots, ends: Spots, best: Integers, ways: Integers, lengths: Any,
 ) -> Floats:
-    """The metres of the way of each cell, if it has one. Nanometres between nodes may be known."""
+    """The metres of the way of each cell, if it has one, by the nanometres between nodes; puts ways
+    along single roads, and `FAR`, into the weights."""
+    stay_on_roads(roads, starts, ends, best, ways)
+    best[best > NOWHERE // 2] = FAR
     rows, columns = numpy.nonzero(best < FAR)
     metres = numpy.zeros(best.shape)
     for first in range(0, len(rows), BATCH):
         row, column = rows[first:first + BATCH], columns[first:first + BATCH]
-        known = None if lengths is None else lengths[row, column]
-        metres[row, column] = metres_by(
-            trips, starts, row, ends, column, best[row, column], ways[row, column], known)
+        some = row, column
+        over = between_nodes(starts, row, ends, column, best[some], ways[some])
+        between = numpy.where(over.is_walk, lengths[some], 0) * NANOMETRE
+        metres[some] = metres_of(roads, starts, row, ends, column, over, between)
     return metres
-
-
-def metres_by(
-    trips: Trips, starts: Spots, rows: Integers, ends: Spots, columns: Integers, best: Integers,
-    ways: Integers, lengths: Any = None,
-) -> Floats:
-    """How long these ways from some of the spots `starts` to as many of `ends` are."""
-    over = between_nodes(starts, rows, ends, columns, best, ways)
-    if lengths is None:
-        between, lengths = numpy.zeros((2, len(best)), numpy.int64)
-        own = over.pairs[over.is_walk]
-        found = trips.engine.sums(own, trips.roads.nanometres)
-        between[over.is_walk], lengths[over.is_walk] = found
-        over.see_that_right(between, best)
-    lengths = numpy.where(over.is_walk, lengths, 0)
-    return metres_of(trips.roads, starts, rows, ends, columns, over, lengths * NANOMETRE)
