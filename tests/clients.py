@@ -7,6 +7,7 @@ A check that needs a missing package is named and left out. The last line is 'N 
 import collections
 import concurrent.futures
 import http.client
+import itertools
 import json
 import random
 import signal
@@ -106,28 +107,31 @@ def memory_of(process):
 
 
 def fifty_clients_for_a_minute():
-    """No answer is wrong, none is lost, and memory is steady from half of the minute on."""
+    """No answer is another one than that to the same request alone, whose weight and metres are those of the package; none is lost, and memory is steady
+    from half of the minute on."""
     draw = random.Random("fifty clients")
     coordinates = files.read_coordinates(f"{COUNTRY}.co")
     places = [coordinates.of(draw.choice(coordinates.known())) for _ in range(12)]
+    asked = [("/api/route", {"from": start, "to": end}) for start in places for end in places]
+    asked += [("/api/table", {"sources": [start], "targets": [end]}) for start in places for end in places]
     with chtab.Network.open(f"{COUNTRY}.gr", program=PROGRAM) as network:
         spots = network.snap(*zip(*places))
-        wanted = network.trip_table(spots, spots).tolist()
+        weights = [weight for row in network.trip_table(spots, spots).tolist() for weight in row]
+        trips = network.trip_routes(*(spots[list(places)] for places in zip(*itertools.product(range(12), repeat=2))))
     with service() as (child, address):
+        alone = [ask(address, *each) for each in asked]
+        for (_, route), (_, table), trip, weight in zip(alone[:144], alone[144:], trips, weights, strict=True):
+            assert (route["properties"]["weight"], route["properties"]["metres"]) == (weight, round(trip.metres, 1)) and trip.weight == weight, (route, trip)
+            assert table["weights"] == [[weight]], (table, weight)
 
         def work(seed):
             """How many answers were right, or the first that was wrong."""
             draw, count = random.Random(seed), 0
             while time.monotonic() < latest or not count or answered.total() < MANY:
-                k, l = draw.randrange(12), draw.randrange(12)
-                if draw.random() < 0.5:
-                    status, value = ask(address, "/api/route", {"from": places[k], "to": places[l]})
-                    found = value["properties"]["weight"] if status == 200 else value
-                else:
-                    status, value = ask(address, "/api/table", {"sources": [places[k]], "targets": [places[l]]})
-                    found = value["weights"][0][0] if status == 200 else value
-                if found != wanted[k][l]:
-                    return k, l, found, wanted[k][l]
+                place = draw.randrange(len(asked))
+                found = ask(address, *asked[place])
+                if found != alone[place]:
+                    return asked[place], found, alone[place]
                 count += 1
                 answered[seed] = count
             return count

@@ -23,10 +23,6 @@ SCRIPTS = "service", "osrm", "osrm_requests", "load", "operating", "clients", "p
 class Script(pytest.Module):
     """A script whose checks are tests."""
 
-    def setup(self):
-        super().setup()
-        running.build()
-
     def collect(self):
         for needed, checks in self.obj.GROUPS:
             for check in checks:
@@ -41,10 +37,11 @@ def pytest_collect_file(file_path, parent):
     return None
 
 
-@pytest.fixture(scope="module")
-def program():
-    """The path of the built program, which is built first where that is needed."""
-    if subprocess.run([running.ROOT / "chtab", "--help"], stdout=subprocess.DEVNULL).returncode:
+@pytest.fixture(scope="module", autouse=True)
+def program(request):
+    """The path of the program, which is built first where that is needed: for scripts, and for modules that name it."""
+    is_used = isinstance(request.node, Script) or hasattr(request.module, "PROGRAM")
+    if is_used and subprocess.run([running.ROOT / "chtab", "--help"], stdout=subprocess.DEVNULL).returncode:
         pytest.fail("the program could not be built", pytrace=False)
     return running.PROGRAM
 

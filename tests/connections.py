@@ -191,6 +191,7 @@ class Crowd:
 
     def __init__(self, address, seconds):
         self.address, self.latest, self.found, self.lock = address, time.monotonic() + seconds, collections.Counter(), threading.Lock()
+        self.wanted = send(address, ROUTE)[2]
 
     def work(self):
         connection = None
@@ -199,7 +200,8 @@ class Crowd:
             try:
                 connection.request("GET", ROUTE)
                 answer = connection.getresponse()
-                outcome = answer.status, json.loads(answer.read()).get("code", "")
+                text = answer.read()
+                outcome = answer.status, "the same" if text == self.wanted else json.loads(text)["code"]
                 connection = None if answer.will_close else connection
             except OSError as fault:
                 outcome, connection = type(fault).__name__, None
@@ -216,7 +218,7 @@ def no_request_of_a_crowd_is_cut():
             each.start()
         for each in working:
             each.join()
-        assert set(crowd.found) == {(200, "Ok"), (503, "InternalError")}, crowd.found
+        assert json.loads(crowd.wanted)["code"] == "Ok" and set(crowd.found) == {(200, "the same"), (503, "InternalError")}, crowd.found
         time.sleep(REST)
         assert ask(address, ROUTE)[0] == 200
     lines = told().splitlines()

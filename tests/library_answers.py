@@ -465,6 +465,21 @@ def weigh_in_threads(tally, library, graph):
     tally.expect([library.topology_close(each) for each in topologies] == [0] * 4 and library.close(kept) == 0, "all close")
 
 
+def compare_bad_orders(tally, library):
+    """In the order of numbers, where the first node joins many others: with 128 edges it is contracted first, and with more the hierarchy is the one by depth."""
+    for before, after in (64, 64), (65, 64), (64, 65), (128, 1), (127, 1):
+        nodes = 1 + before + after
+        arcs = [(node, 1, node) for node in range(2, before + 2)] + [(1, node, node) for node in range(before + 2, nodes + 1)]
+        status, numbers, _ = library.open(graph_text(nodes, []), b"")
+        for fresh in 0, 50, 98:
+            owed = text_like(nodes, arcs, 5, [*range(1, nodes + 1)], fresh if before + after <= 128 else 100).encode()
+            status, handle, _ = library.open_like(graph_text(nodes, arcs), numbers, fresh)
+            told = status, *library.save(handle, len(owed))
+            tally.expect(told == (0, 0, len(owed), owed), f"{before} and {after} edges at the first node, {fresh} per cent afresh")
+            library.close(handle)
+        library.close(numbers)
+
+
 def compare_orders(tally, library):
     """Of random graphs, in the order of another one with as many nodes: the hierarchy is that of an independent program."""
     for seed in range(60):
@@ -508,6 +523,7 @@ def main():
     in_process.make()
     tally, library = Count(), Library()
     compare_orders(tally, library)
+    compare_bad_orders(tally, library)
     compare_random_arrays(tally, library)
     compare_random_customized(tally, library)
     tell_lines(tally, library)

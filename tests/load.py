@@ -1,7 +1,7 @@
 #!/usr/bin/python3
-"""Tests the service under load and as a process of the system: many clients while runs are killed, slow and half-open clients, an address that
-asks for more than its share, several processes behind one port, how it ends, what it counts and logs, and what stands before it: nginx and
-systemd.
+"""Tests the service under load and as a process of the system: many clients, each of whose answers is compared, also while speeds change; slow and
+half-open clients, an address that asks for more than its share, several processes behind one port, how it ends, what it counts and logs, and what
+stands before it: nginx and systemd.
 
   load.py [SECONDS]
 
@@ -27,12 +27,14 @@ import urllib.parse
 
 from helpers import running
 from helpers.in_process import make
+from helpers.known_answers import EACH, KINDS, Client, Request, Requests, Right, asked_alone
 from helpers.moods import STANDIN, holding, mood
 from helpers.packages import PYTHON, run_checks
 from helpers.running import PROGRAM, ROOT
 from helpers.serving import COUNTRY, SERVICE, ask, faulty_service, send, service, waiting_at
 from helpers.waiting import PATIENCE, until
 from helpers.ways import saved_for
+from oracles.telling import metres
 
 sys.path.insert(0, str(ROOT / "python"))
 
@@ -44,21 +46,6 @@ ROUTE = "/route/v1/car/9.5209,47.1410;9.5450,47.2200"
 SECONDS = 10.0
 # How many clients ask, and how many answers they have to have at least: with these the memory of the service is as large as it gets.
 CLIENTS, MANY = 50, 2_000
-
-
-class Country:
-    """Places beside roads, with the weights and the metres of trips between them, by a network of its own."""
-
-    def __init__(self, count, seed):
-        draw = random.Random(seed)
-        with chtab.Network.open(f"{COUNTRY}.gr", program=PROGRAM) as network:
-            known = network.coordinates.known()
-            self.places = [[round(part + draw.gauss(0, 0.0004), 6) for part in network.coordinates.of(draw.choice(known))] for _ in range(count)]
-            spots = network.snap(*zip(*self.places))
-            self.weights = network.trip_table(spots, spots).tolist()
-
-    def text(self, *which):
-        return ";".join(f"{x:.6f},{y:.6f}" for x, y in (self.places[each] for each in which))
 
 
 def processes_below(number):
@@ -93,57 +80,17 @@ def memory_of(numbers):
     return total
 
 
-class Client:
-    """A client on a connection that is kept, and begun anew where the service closed it."""
-
-    def __init__(self, address, source=None):
-        self.address, self.source = address, source and (source, 0)
-        self.connection = None
-
-    def ask(self, path, body=None, headers=None):
-        if self.connection is None:
-            self.connection = http.client.HTTPConnection(self.address.hostname, self.address.port, timeout=PATIENCE, source_address=self.source)
-        data = None if body is None else json.dumps(body).encode()
-        self.connection.request("GET" if body is None else "POST", path, data, headers or {})
-        answer = self.connection.getresponse()
-        value = json.loads(answer.read())
-        if answer.will_close:
-            self.close()
-        return answer.status, value
-
-    def close(self):
-        if self.connection is not None:
-            self.connection.close()
-            self.connection = None
-
-
-def one_question(client, country, draw):
-    """Asks a question of a kind that is drawn, and tells what is wrong with its answer; None where nothing is."""
-    k, l, m = (draw.randrange(len(country.places)) for _ in range(3))
-    wanted, kind = country.weights, draw.randrange(5)
-    if kind == 0:
-        status, value = client.ask("/api/route", {"from": country.places[k], "to": country.places[l]})
-        found, due = status == 200 and value["properties"]["weight"], wanted[k][l]
-    elif kind == 1:
-        status, value = client.ask(f"/table/v1/car/{country.text(k, l, m)}?annotations=duration,distance&sources=0;2&destinations=1")
-        found, due = status == 200 and [row[0] for row in value["durations"]], [wanted[k][l] / 1000, wanted[m][l] / 1000]
-    elif kind == 2:
-        status, value = client.ask(f"/nearest/v1/car/{country.text(k)}?number=2")
-        found, due = status == 200 and len(value["waypoints"]), 2
-    else:
-        query = "overview=false" if kind == 3 else "overview=full&geometries=geojson&steps=true&annotations=true"
-        status, value = client.ask(f"/route/v1/car/{country.text(k, l, m)}?{query}&continue_straight=false")
-        found = status == 200 and [leg["duration"] for leg in value["routes"][0]["legs"]]
-        due = [wanted[k][l] / 1000, wanted[l][m] / 1000]
-    return None if found == due else (kind, k, l, m, status, found or value, due)
-
-
 class Clients:
-    """Clients that ask at once, until some seconds have gone by and there are as many answers as they have to have at least."""
+    """Clients that ask at once, until some seconds have gone by and there are as many answers as they have to have at least: what was answered that is
+    not what is known, and of each kind of request how many were asked."""
 
-    def __init__(self, address, country, seconds, least):
-        self.address, self.country, self.latest, self.least = address, country, time.monotonic() + seconds, least
-        self.count, self.wrong, self.lock = 0, [], threading.Lock()
+    def __init__(self, address, known, seconds, least):
+        self.address, self.known, self.latest, self.least = address, known, time.monotonic() + seconds, least
+        self.asked, self.counts, self.wrong, self.lock = list(known), collections.Counter(), [], threading.Lock()
+
+    @property
+    def count(self):
+        return self.counts.total()
 
     def is_over(self):
         return time.monotonic() > self.latest and self.count > self.least
@@ -151,10 +98,11 @@ class Clients:
     def work(self, seed):
         draw, client = random.Random(seed), Client(self.address)
         while not self.is_over():
-            fault = one_question(client, self.country, draw)
+            request = draw.choice(self.asked)
+            status, text = client.send(request)
             with self.lock:
-                self.count += 1
-                self.wrong += [fault] if fault else []
+                self.counts[request.kind] += 1
+                self.wrong += [] if (status, text) == (200, self.known[request]) else [(request, status, text[:500], self.known[request][:500])]
         client.close()
 
 
@@ -173,102 +121,114 @@ def idle_clients(address, count=20):
             client.close()
 
 
-def fifty_clients_while_runs_are_killed(*words):
-    """No answer is wrong, none is lost, also while the runs that there are are killed twice, and memory is steady from half of the time on."""
-    country = Country(20, "load")
-    with service(COUNTRY, *words) as (child, address), idle_clients(address), concurrent.futures.ThreadPoolExecutor(CLIENTS) as clients:
-        asking = Clients(address, country, SECONDS, MANY)
-        working = [clients.submit(asking.work, seed) for seed in range(CLIENTS)]
-        for part in 1, 2:
-            until(lambda: time.monotonic() > asking.latest - SECONDS + part * SECONDS / 4 and asking.count > part * MANY / 4)
-            assert not runs_below(child.pid)
-        held = memory_of(own := [child.pid, *processes_below(child.pid)])
-        for each in working:
-            each.result()
-        assert not asking.wrong and asking.count > MANY, (asking.count, len(asking.wrong), asking.wrong[:3])
+def known_in_country():
+    """What is right for requests of all kinds in the country."""
+    with chtab.Network.open(f"{COUNTRY}.gr", program=PROGRAM) as network:
+        return Right(Requests(network, COUNTRY, "load"))
+
+
+def fifty_clients(*words):
+    """No answer is another one than that to the same request alone, which was compared with what is right; none is lost, and memory is steady from half
+    of the time on."""
+    with service(COUNTRY) as (_, address):
+        known = asked_alone(address, known_in_country())
+    assert len(known) > 200 and len({*known.values()}) > 0.9 * len(known), "hardly two requests have the same answer"
+    # The service that many ask has kept nothing yet.
+    with service(COUNTRY, *words) as (child, address), concurrent.futures.ThreadPoolExecutor(CLIENTS) as clients:
+        with idle_clients(address):
+            asking = Clients(address, known, SECONDS, MANY)
+            working = [clients.submit(asking.work, seed) for seed in range(CLIENTS)]
+            for part in 1, 2:
+                until(lambda: time.monotonic() > asking.latest - SECONDS + part * SECONDS / 4 and asking.count > part * MANY / 4)
+                assert not runs_below(child.pid)
+            held = memory_of(own := [child.pid, *processes_below(child.pid)])
+            for each in working:
+                each.result()
+        assert not asking.wrong and asking.count > MANY and min(asking.counts[kind] for kind in KINDS) > MANY / 100, (asking.counts, asking.wrong[:3])
         assert memory_of([child.pid, *processes_below(child.pid)]) < 1.1 * held + 16e6 * (1 + len(own) / 2), held
 
 
 class Traffic:
-    """Two files of speeds for a copy of the country, whose nodes have numbers of a map, and the weights of trips between some places by each of them."""
+    """Two files of speeds for a copy of the country, whose nodes have numbers of a map, and what is right by each of them."""
 
-    def __init__(self, count, seed):
+    def __init__(self, seed):
         draw = random.Random(seed)
         for suffix in "gr", "co":
             shutil.copy(f"{COUNTRY}.{suffix}", f"net.{suffix}")
         with chtab.Network.open("net.gr", program=PROGRAM) as network:
-            known, graph = network.coordinates.known(), network.graph
-            numbers = draw.sample(range(10**9, 10**10), network.nodes)
-            pathlib.Path("net.nodes").write_text("".join(f"{number}\n" for number in numbers))
-            self.places = [[round(part + draw.gauss(0, 0.0004), 6) for part in network.coordinates.of(draw.choice(known))] for _ in range(count)]
-            spots = network.snap(*zip(*self.places))
-            metres = [nanometres / 1e9 for nanometres in network.roads.nanometres.tolist()]
-            self.tables = {}
-            for name in "slow", "fast":
-                pairs = {pair: draw.uniform(3, 130) for pair in zip(graph.tails, graph.heads) if draw.random() < 0.9}
-                lines = [f"{numbers[tail - 1]},{numbers[head - 1]},{speed!r}" for (tail, head), speed in pairs.items()]
-                # What behind the speed, lines of no road, and an earlier line of the same piece count for nothing.
-                lines = [f"{lines[0].rpartition(',')[0]},7", "1,2,50", f"{numbers[0]},5,50,1.5", *(line + draw.choice(("", ",1.5")) for line in lines)]
-                pathlib.Path(name).write_text("".join(f"{line}\n" for line in lines))
-                weights = [
-                    (round(length * 3600 / pairs[pair]) or 1) if pair in pairs and length else weight
-                    for pair, length, weight in zip(zip(graph.tails, graph.heads), metres, graph.weights)
-                ]
-                with network.changed(weights) as other:
-                    self.tables[name] = other.trip_table(other.snap(*zip(*self.places)), other.snap(*zip(*self.places))).tolist()
-            assert len(spots) == count and self.tables["slow"] != self.tables["fast"]
+            self.requests = Requests(network, "net", seed)
+        arcs, nodes = self.requests.arcs, self.requests.nodes
+        numbers = draw.sample(range(10**9, 10**10), len(nodes))
+        pathlib.Path("net.nodes").write_text("".join(f"{number}\n" for number in numbers))
+        self.rights, self.answers = {}, {}
+        for name in "slow", "fast":
+            pairs = {pair: draw.uniform(3, 130) for pair in ((tail, head) for tail, head, _ in arcs) if draw.random() < 0.9}
+            lines = [f"{numbers[tail - 1]},{numbers[head - 1]},{speed!r}" for (tail, head), speed in pairs.items()]
+            # What behind the speed, lines of no road, and an earlier line of the same piece count for nothing.
+            lines = [f"{lines[0].rpartition(',')[0]},7", "1,2,50", f"{numbers[0]},5,50,1.5", *(line + draw.choice(("", ",1.5")) for line in lines)]
+            pathlib.Path(name).write_text("".join(f"{line}\n" for line in lines))
+            weights = []
+            for tail, head, weight in arcs:
+                length = metres(nodes[tail], nodes[head])
+                weights.append((round(length * 3600 / pairs[tail, head]) or 1) if (tail, head) in pairs and length else weight)
+            self.rights[name] = Right(self.requests, weights, numbers)
 
     def put(self, name):
         """Puts a file in the place of the one that the service reads."""
         shutil.copy(name, "speeds.new")
         os.replace("speeds.new", "speeds.csv")
 
-    def fits(self, answer, which, name):
-        """Whether a table of some places is that of a file."""
-        return answer == [[None if weight < 0 else weight for weight in (self.tables[name][one][other] for other in which)] for one in which]
+    def ask_alone(self):
+        """Asks a service for each file alone, and compares its answers with what is right by this file."""
+        for name, right in self.rights.items():
+            with service("net", "--segment-speed-file", name) as (_, address):
+                self.answers[name] = asked_alone(address, right)
+        slow, fast = self.answers.values()
+        places = [request for request in slow if request.kind in ("nearest", "one road")]
+        assert all(slow[request] == fast[request] for request in places) and sum(slow[request] != fast[request] for request in slow) > 0.9 * (len(slow) - len(places))
+        for kind in "lone", "distances", "large", "api route":
+            assert sum(self.metres(slow, request) != self.metres(fast, request) for request in slow if request.kind == kind) > EACH / 2, kind
 
-    def asked(self, address, which, form):
-        """The weights from each of some places to each, by `/api/table`, by a table in OSRM's form, or by its routes; None if an answer is refused."""
-        places = [self.places[each] for each in which]
-        if form == "api":
-            status, answer = ask(address, "/api/table", {"sources": places, "targets": places})
-            return answer["weights"] if status == 200 else None
-        listed = [f"{x},{y}" for x, y in places]
-        if form == "table":
-            status, answer = ask(address, f"/table/v1/car/{';'.join(listed)}")
-            return in_milliseconds(answer["durations"]) if status == 200 else None
-        found = [[ask(address, f"/route/v1/car/{one};{other}?overview=false") for other in listed] for one in listed]
-        if any(status != 200 for row in found for status, _ in row):
-            return None
-        return in_milliseconds([[answer["routes"][0]["duration"] for _, answer in row] for row in found])
+    def metres(self, answers, request):
+        """The metres of an answer."""
+        return re.findall(rb'"(?:distance|metres)": [\d.]+|"distances": [^"]*', answers[request])
 
-
-def in_milliseconds(seconds):
-    """Rows of durations in milliseconds, None where there is none."""
-    return [[None if each is None else round(1_000 * each) for each in row] for row in seconds]
+    def fitting(self, request, answer):
+        """The files with whose speeds an answer is right."""
+        return [name for name, answers in self.answers.items() if answer == (200, answers[request])]
 
 
 def fifty_clients_while_speeds_change(*words):
     """Speeds are exchanged while fifty clients ask: none fails, each answer is right for one file, and after an exchange no answer is by the file before."""
-    traffic = Traffic(24, "traffic")
+    traffic = Traffic("traffic")
+    traffic.ask_alone()
     traffic.put("slow")
-    seen, wrong, lock, ended = collections.Counter(), [], threading.Lock(), threading.Event()
+    asked, seen, wrong, lock, ended = traffic.requests.every, collections.Counter(), [], threading.Lock(), threading.Event()
+    # The file whose speeds each answer has to have once the exchange is over; None while either will do, as where several processes exchange.
+    due = [None]
 
     def work(address, seed):
-        draw = random.Random(seed)
+        draw, client = random.Random(seed), Client(address)
         while not ended.is_set():
-            which = [draw.randrange(len(traffic.places)) for _ in range(draw.choice((2, 6)))]
-            answer = traffic.asked(address, which, draw.choice(("api", "table")))
-            fits = [name for name in traffic.tables if answer is not None and traffic.fits(answer, which, name)]
+            request, before = draw.choice(asked), due[0]
+            answer = client.send(request)
+            fits = traffic.fitting(request, answer)
             with lock:
                 seen.update(fits)
-                if not fits:
-                    wrong.append(answer)
+                if not fits or before == due[0] and before not in (None, *fits):
+                    wrong.append((request, before, fits, answer[0], answer[1][:500]))
+        client.close()
 
     def is_by(address, name):
-        """Whether each process answers by a file: many requests in turn, each on a connection of its own."""
-        which, few = [*range(len(traffic.places))], [0, 1, 2]
-        return all(traffic.fits(traffic.asked(address, some, form), some, name) for some, form in [(which, "api"), (which, "table"), (few, "route")] * 3)
+        """Whether each process answers by a file: requests of each kind in turn, each on a connection of its own."""
+        for kind in KINDS:
+            for request in random.Random(kind).sample([each for each in asked if each.kind == kind], 3 if words else 1):
+                client = Client(address)
+                fits = traffic.fitting(request, client.send(request))
+                client.close()
+                if name not in fits:
+                    return False
+        return True
 
     with service("net", "--segment-speed-file", "speeds.csv", *words) as (child, address), concurrent.futures.ThreadPoolExecutor(CLIENTS) as clients:
         assert is_by(address, "slow")
@@ -281,7 +241,10 @@ def fifty_clients_while_speeds_change(*words):
                     child.send_signal(signal.SIGHUP)
                 else:
                     traffic.put(name)
-                until(lambda: is_by(address, name) and seen.total() > before + MANY / 20)
+                until(lambda: is_by(address, name))
+                due[0] = None if words else name
+                until(lambda: seen.total() > before + MANY / 10)
+                due[0] = None
         finally:
             ended.set()
         for each in working:
@@ -295,7 +258,7 @@ def also_speeds_of_several_processes():
 
 
 def also_by_several_processes():
-    fifty_clients_while_runs_are_killed("--processes", "3")
+    fifty_clients("--processes", "3")
 
 
 def an_address_takes_its_share():
@@ -309,11 +272,11 @@ def an_address_takes_its_share():
             return f"/trip/v1/car/{9.52 + place / 1000:.3f},47.1410;9.5450,47.2200?overview=false"
 
         def greedy(place):
-            return Client(address, "127.0.0.1").ask(trip(place))[0]
+            return Client(address, "127.0.0.1").send(Request("trip", (), trip(place)))[0]
 
         def other(client):
             source, headers = (client, {}) if client.startswith("127.") else ("127.0.0.3", {"X-Forwarded-For": f"10.0.0.9, {client}"})
-            return Client(address, source).ask(trip(30), headers=headers)[0]
+            return Client(address, source).send(Request("trip", (), trip(30)), headers)[0]
 
         with concurrent.futures.ThreadPoolExecutor(40) as clients:
             waiting = []
@@ -574,8 +537,9 @@ def check_command(words):
 
 
 GROUPS = (
+    ((*SERVICE, "python3-polyline"), [fifty_clients, also_by_several_processes, fifty_clients_while_speeds_change, also_speeds_of_several_processes]),
     (SERVICE, [
-        fifty_clients_while_runs_are_killed, also_by_several_processes, fifty_clients_while_speeds_change, also_speeds_of_several_processes, processes_are_begun_anew, an_address_takes_its_share,
+        processes_are_begun_anew, an_address_takes_its_share,
         it_ends_once_it_has_answered, the_library_answers_where_it_fits, the_library_answers_for_networks_with_names, what_takes_too_long_is_broken_off,
     ]),
     ((*SERVICE, "python3-prometheus-client"), (requests_are_counted_and_logged,)),

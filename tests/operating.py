@@ -25,7 +25,7 @@ import urllib.parse
 import numpy
 
 from helpers import running
-from helpers.maps import town_at_a_cost
+from helpers.maps import tool, town_at_a_cost
 from helpers.moods import STANDIN, holding, mood
 from helpers.packages import PYTHON, run_checks
 from helpers.running import PROGRAM, ROOT
@@ -182,6 +182,22 @@ def files_that_are_missing():
         assert done.stderr.count("\n") == 1 and not done.stdout, done
 
 
+def grids_of_streets_are_built_with_few_edges():
+    """On a grid of streets the hierarchy of `save --quick`, which a service builds too, has hardly more edges than that by depth, and several workers
+    make the same; the way of building that took a hundred times as long there is refused."""
+    subprocess.run([ROOT / "bench" / "osm.py", "60000", "streets.osm"], check=True, stdout=subprocess.DEVNULL)
+    tool("osm_to_gr", "--quiet", "--turns", "streets.osm", "streets")
+
+    def saved(*words):
+        return subprocess.run([PROGRAM, "save", *words, "streets.gr"], check=True, capture_output=True).stdout
+
+    quick, deep = saved("--quick"), saved("--deep")
+    edges, least = (len(re.findall(rb"^l ", text, re.MULTILINE)) for text in (quick, deep))
+    assert saved("--quick", "--workers", "4") == quick and least > 10_000 and edges < 1.5 * least, (edges, least)
+    done = subprocess.run([PROGRAM, "save", "--rounds", "streets.gr"], capture_output=True, text=True)
+    assert (done.returncode, done.stdout) == (2, "") and "--rounds" in done.stderr, done
+
+
 def a_second_service_on_the_port():
     """A second service doesn't share the port of one that runs, whatever its processes, unless it takes the port over; nor does it take what is no
     service of this kind."""
@@ -201,6 +217,9 @@ class Load:
 
     def __init__(self, address, clients):
         self.address, self.is_over, self.found = address, False, collections.Counter()
+        # Each service has the same network, so that each answer is the same.
+        self.wanted = send(address, ROUTE)[2]
+        assert json.loads(self.wanted)["routes"][0]["distance"] > 5_000, self.wanted
         self.threads = [threading.Thread(target=self.go, args=(place % 2 == 0,)) for place in range(clients)]
         for thread in self.threads:
             thread.start()
@@ -213,8 +232,8 @@ class Load:
             try:
                 connection.request("GET", ROUTE, headers={} if is_kept else {"Connection": "close"})
                 answer = connection.getresponse()
-                value = json.loads(answer.read())
-                self.found[answer.status if value["code"] == "Ok" else value["code"]] += 1
+                text = answer.read()
+                self.found[answer.status if text == self.wanted else text[:200]] += 1
                 is_over = answer.will_close
             except Exception as fault:
                 self.found[repr(fault)] += 1
@@ -394,7 +413,7 @@ GROUPS = (
         files_that_are_changed, health_is_no_better_than_answers, addresses_that_proxies_name,
         requests_that_once_failed, files_that_are_missing, a_second_service_on_the_port, it_says_that_connections_close,
         systemd_is_notified, the_log_says_why,
-        files_that_are_replaced, a_new_network_without_a_lost_request, speeds_that_are_refused, speeds_keep_the_costs_of_turns,
+        files_that_are_replaced, grids_of_streets_are_built_with_few_edges, a_new_network_without_a_lost_request, speeds_that_are_refused, speeds_keep_the_costs_of_turns,
     ]),
 )
 

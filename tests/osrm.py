@@ -12,7 +12,7 @@ import sys
 import urllib.parse
 
 from helpers import running, serving
-from helpers.asking_osrm import MILLIONTH, TENTH, answer, distance_to, distances, get, on_sphere, some_nodes, text_of, three, write_network
+from helpers.asking_osrm import MILLIONTH, TENTH, answer, check_annotation, distance_to, distances, get, on_sphere, some_nodes, text_of, three, write_network
 from helpers.packages import run_checks
 from helpers.running import PROGRAM, ROOT
 from helpers.serving import SERVICE, here, on_all_maps, service
@@ -70,9 +70,6 @@ def routes_have_lines():
         assert none["distance"] == none["duration"] == 0 and len(none["geometry"]["coordinates"]) == 2, none
 
 
-PARTS = {"distance", "duration", "weight", "speed", "datasources"}
-
-
 def steps_and_annotations():
     """What lies between the places of a leg sums up to it; its nodes are those of a walk of the map; its steps have its line."""
     import polyline
@@ -108,17 +105,6 @@ def steps_and_annotations():
         assert "waypoints" not in value
         value = answer(address, "route", three(), generate_hints="false", radiuses="100;;unlimited", hints=";;", approaches="unrestricted;;")
         assert all(set(waypoint) == {"location", "name", "distance"} for waypoint in value["waypoints"])
-
-
-def check_annotation(leg, line):
-    parts = leg["annotation"]
-    assert set(parts) == PARTS | {"nodes", "metadata"} and {len(parts[name]) for name in PARTS} == {len(line) - 1} and len(parts["nodes"]) == len(line)
-    assert abs(sum(parts["distance"]) - leg["distance"]) < 0.5 and abs(sum(parts["duration"]) - leg["duration"]) < 1e-6
-    assert parts["weight"] == parts["duration"] and set(parts["datasources"]) == {0} and len(parts["metadata"]["datasource_names"]) == 1
-    for metres, seconds, speed in zip(parts["distance"], parts["duration"], parts["speed"]):
-        assert metres >= 0 and seconds >= 0 and abs(speed - (metres / seconds if seconds else 0)) <= 0.051 + 0.001 / (seconds or 1), (metres, seconds, speed)
-    for told, (start, end) in zip(parts["distance"], zip(line, line[1:])):
-        assert abs(on_sphere(start[::-1], end[::-1]) - told) < 0.3
 
 
 def arcs():

@@ -4,7 +4,9 @@ stops, how routes go on there, and what a table says where no way leads.
 
 A check that needs a missing package is named and left out. The last line is 'N passed, N failed'.
 """
+import collections
 import concurrent.futures
+import contextlib
 import math
 import random
 import sys
@@ -23,9 +25,10 @@ sys.path.insert(0, str(ROOT / "python"))
 import chtab  # noqa: E402
 from chtab._roads import legs  # noqa: E402
 from chtab._roads.legs import FAR, table_ways  # noqa: E402
-from chtab_server.osrm.tables import table_weights  # noqa: E402
+from chtab._engine import library  # noqa: E402
+from chtab_server.osrm.tables import table_weights, weights_and_metres  # noqa: E402
 from chtab._roads.snapping import BACKWARD, FORWARD  # noqa: E402
-from chtab_server.osrm import answering, places, url  # noqa: E402
+from chtab_server.osrm import answering, places, tables, url  # noqa: E402
 from chtab_server.osrm.nearby import find_some, one_sided  # noqa: E402
 
 # What lies between the places of a leg, as annotations name it.
@@ -349,9 +352,9 @@ def answered(answers, target):
 
 
 def small_tables_are_those_of_large_ones():
-    """The weights of small tables are found in another way than those of large ones: cell by cell
-    they are the same, also on one road, at nodes, where no way leads, and from spots that are left
-    in one direction alone."""
+    """The weights and the metres of small tables are found in another way than those of large ones:
+    cell by cell they are the same, also on one road, at nodes, where no way leads, and from spots
+    that are left in one direction alone."""
     draw = random.Random("small tables")
     for out in COUNTRY, town(), town_at_a_cost():
         with chtab.Network.open(f"{out}.gr", program=PROGRAM) as network:
@@ -367,18 +370,72 @@ def small_tables_are_those_of_large_ones():
                 within = draw.choice((None, 100_000))
                 small = table_ways(network._trips, starts, ends, within)
                 weights = table_weights(network._trips, starts, ends)
-                few, legs.FEW = legs.FEW, 0
+                _, metres = weights_and_metres(network._trips, starts, ends)
+                few, legs.FEW, tables.MOST, most = legs.FEW, 0, draw.choice((1, 60, 5_000)), tables.MOST
                 try:
                     large = table_ways(network._trips, starts, ends, within)
                     least, _ = table_ways(network._trips, starts, ends)
+                    found = weights_and_metres(network._trips, starts, ends)
                 finally:
-                    legs.FEW = few
+                    legs.FEW, tables.MOST = few, most
+                assert (found[0] == least).all() and (found[1] == metres).all(), (out, starts, ends)
                 assert (small[0] == large[0]).all(), (out, starts, ends)
                 assert (weights == least).all(), (out, starts, ends)
                 is_way = small[0] < FAR
                 assert (small[1] == large[1])[is_way].all(), (out, starts, ends, small, large)
                 seen += (least == FAR).any() + 1j * (starts is ends)
             assert seen.real > 0 and seen.imag > 20, seen
+
+
+@contextlib.contextmanager
+def counted():
+    """Counts the calls of the library within, and the searches that these take: one from each
+    source and each target of a table, and two for each pair."""
+    counts, before = collections.Counter(), (library.Handle.ask, library.Handle.few_distances)
+
+    def ask(handle, call, *given):
+        name, lengths = call.__name__, [each[1] for each in given if type(each) is tuple]
+        assert name in ("chtab_table", "chtab_table_sums", "chtab_distances", "chtab_route_sums"), name
+        counts.update(calls=1, searches=lengths[0] + lengths[1], pairs=0 if "table" in name else lengths[0])
+        return before[0](handle, call, *given)
+
+    def few_distances(handle, sources, targets):
+        counts.update(calls=1, searches=2 * len(sources), pairs=len(sources))
+        return before[1](handle, sources, targets)
+
+    library.Handle.ask, library.Handle.few_distances = ask, few_distances
+    try:
+        yield counts
+    finally:
+        library.Handle.ask, library.Handle.few_distances = before
+
+
+def distances_of_tables_take_no_searches():
+    """A table with distances makes as many calls of the library, and as many searches, as one
+    without, whatever its size: none for a cell."""
+    draw = random.Random("counted")
+    for out in COUNTRY, town(), town_at_a_cost():
+        with chtab.Network.open(f"{out}.gr", program=PROGRAM) as network:
+            known = [network.coordinates.of(node) for node in network.coordinates.known()]
+            answers = answering.Answers(network)
+            network.trip_table(*[network.snap(*zip(*known[:2]))] * 2)
+            for rows, columns in (1, 1), (2, 3), (3, 2), (25, 25), (20, 60), (64, 64), (70, 66), (3, 90), (100, 100):
+                chosen = text_of(drawn_coordinates(draw, known, rows + columns)[:rows + columns])
+                lists = ";".join(map(str, range(rows))), ";".join(map(str, range(rows, rows + columns)))
+                for more in "", "&sources={}&destinations={}".format(*lists):
+                    if not more and (rows + columns)**2 > 10_000:
+                        continue
+                    found = []
+                    for words in "duration", "duration,distance", "distance":
+                        target = f"/table/v1/x/{chosen}?annotations={words}{more}"
+                        question = answers.question(url.words_of(target, 1 << 16))
+                        with counted() as counts:
+                            answers.tables([question] * 3)
+                        found.append(counts)
+                    assert found[0] == found[1] == found[2], (out, rows, columns, found)
+                    assert 3 <= found[0]["calls"] <= 6 and not found[0]["pairs"], found
+                    width = network.roads.ways.nodes.shape[1]
+                    assert found[0]["searches"] <= 3 * width * 2 * (rows + columns), found
 
 
 def tables_that_are_answered_together_are_those_of_each():
@@ -412,6 +469,7 @@ def tables_that_are_answered_together_are_those_of_each():
 GROUPS = (
     (SERVICE, [
         places_that_are_kept_change_no_answer, small_tables_are_those_of_large_ones,
+        distances_of_tables_take_no_searches,
         tables_that_are_answered_together_are_those_of_each,
         bearings_choose_the_way, tracks_keep_to_their_directions, places_at_the_curb,
         cells_without_a_way_are_filled, short_roads_have_two_ends,

@@ -20,7 +20,7 @@ import threading
 import urllib.parse
 
 from helpers import running
-from helpers.any_options import drawn_request
+from helpers.any_options import drawn_object, drawn_request, options_of_the_page
 from helpers.asking_osrm import ESCHEN, PLAIN, TENTH, VADUZ, answer, get, on_sphere, some_nodes, text_of, three
 from helpers.maps import tool
 from helpers.packages import PYTHON, run_checks
@@ -28,8 +28,8 @@ from helpers.running import PROGRAM, ROOT
 from helpers.serving import BROWSER, COUNTRY, SERVICE, here, on_all_maps, send, service, shown_page
 from helpers.waiting import PATIENCE
 
-# How many requests with drawn options are asked.
-REQUESTS = 1_500
+# How many requests with drawn options are asked, and what they are drawn by.
+REQUESTS, SEED = 1_500, "any options"
 REFUSED = (
     ("/route", "InvalidUrl", "has the form"), ("/route/v1", "InvalidUrl", "has the form"), ("/route/v1/car", "InvalidUrl", "has the form"),
     ("/route/v1/car/", "InvalidUrl", "has the form"), (f"/route/v1//{PLAIN}", "InvalidUrl", "has the form"), (f"/route/v1/car/{PLAIN}/x", "InvalidUrl", "form"),
@@ -153,9 +153,9 @@ def requests_are_posted():
 
 
 def any_options_get_an_answer():
-    """Requests with all options, drawn, some strange, in the address or in a body: each is answered, or refused by a line, and nothing is told on
-    standard error."""
-    draw, counts = random.Random("any options"), collections.Counter()
+    """Requests with all options of docs/SERVICE.md, drawn, some strange, in the address or in a body, and in JSON: each is answered, or refused by a line,
+    and nothing is printed on standard error."""
+    draw, counts, seen = random.Random(SEED), collections.Counter(), set()
     places = [*three(), *some_nodes(20, "any options")[1]]
     with service(None, "--network", f"car={here()}", "--network", f"car/toll={here()}") as (_, address):
         connection = http.client.HTTPConnection(address.hostname, address.port, timeout=PATIENCE)
@@ -164,20 +164,29 @@ def any_options_get_an_answer():
             connection.request(method, target, body)
             found = connection.getresponse()
             value = json.loads(found.read())
-            assert found.status in (200, 400) and (found.status == 200) == (value["code"] == "Ok"), (target, body, found.status, value)
+            refusal = {"error"} if target.startswith("/api/") else {"code", "message"}
+            is_right = value.get("code", "Ok") == "Ok" if found.status == 200 else found.status == 400 and set(value) == refusal and value.get("code") != "Ok"
+            assert is_right, (target, body, found.status, value)
             return value
 
         for _ in range(REQUESTS):
             target = drawn_request(draw, places)
-            value = asked("GET", target)
-            counts[target.split("/")[1], value["code"]] += 1
+            value, name = asked("GET", target), target.split("/")[1]
+            counts[name, value["code"]] += 1
             counts["toll", value["code"]] += "exclude=toll" in target
+            if value["code"] == "Ok":
+                seen |= {(name, option.partition("=")[0]) for option in target.partition("?")[2].split("&")}
             if draw.random() < 0.2:
                 head, tail = target.split("/v1/car/")
                 assert asked("POST", f"{head}/v1/car", tail) == value, target
+            if draw.random() < 0.1:
+                path, body = drawn_object(draw, places)
+                counts[path, "error" not in asked("POST", path, body)] += 1
         connection.close()
     assert open("told").read() == "", open("told").read()
     assert all(counts[name, "Ok"] > REQUESTS / 100 for name in ("route", "table", "nearest", "trip", "match", "toll")), counts
+    assert all(counts[f"/api/{name}", is_answered] > REQUESTS / 300 for name in ("route", "table", "reach") for is_answered in (False, True)), counts
+    assert (left_out := options_of_the_page() - seen) == set(), left_out
 
 
 def raw_answer(address, sent):

@@ -16,6 +16,7 @@ import random
 from helpers.maps import COUNTRY, osm, tool, town, town_at_a_cost
 
 from helpers import running
+from helpers.asking_osrm import check_leg
 from helpers.packages import run_checks
 from helpers.running import PROGRAM
 from oracles import mapping, telling
@@ -238,6 +239,18 @@ def restrictions_close_branches():
             assert found["entry"] == [True, False, False] and (found["in"], found["out"]) == (2, 0), found
 
 
+def nobody_turns_round_beside_a_forbidden_turn():
+    """A route round a forbidden turn goes on where one way becomes another, and turns round at a dead end alone, or where three roads meet."""
+    nodes = {1: (0, 0), 2: (-1, 0), 3: (0, 1), 4: (0.2, 0), 6: (1, 0), 7: (1, 1), 8: (0.2, -1)}
+    ways, left = [[2, 1], [1, 3], [1, 4], [4, 6], [6, 7], [7, 3]], [("way", 1, "from"), ("node", 1, "via"), ("way", 2, "to")]
+    turn = [(left, {"type": "restriction", "restriction": "no_left_turn"})]
+    for roads, wanted in (ways, []), (ways[:3], [0.2]), ([*ways, [4, 8]], [0.2]), (ways[:5], [1]):
+        with asked(osm(nodes, [(way, {"highway": "residential"}) for way in roads], turn), turns=True) as (ask, _):
+            found = [step["maneuver"] for step in steps_of(ask, [(x / UNIT, y / UNIT) for x, y in (WEST, (0, 0.5))])]
+            places = [each["location"][0] * UNIT for each in found if each.get("modifier") == "uturn"]
+            assert [round(place, 3) for place in places] == wanted, (roads, found)
+
+
 def steps_add_up():
     """On real roads: lines, lengths and times of steps add up to those of their leg, each begins where the one before ends, and what is told of
     crossings fits. A network without names tells turns all the same."""
@@ -315,23 +328,6 @@ def lone_routes_are_those_found_together():
                 assert [str(alone)] == list(map(str, together)), (out, places)
                 ways[str(alone)[:9]] += 1
         assert ways['{"code": '] > 300, ways
-
-
-def check_leg(leg):
-    steps = leg["steps"]
-    assert [step["maneuver"]["type"] for step in (steps[0], steps[-1])] == ["depart", "arrive"]
-    assert abs(sum(step["distance"] for step in steps) - leg["distance"]) < 0.06 * len(steps) + 0.5, leg
-    assert abs(sum(step["duration"] for step in steps) - leg["duration"]) < 1e-6 and steps[-1]["distance"] == steps[-1]["duration"] == 0
-    for step, then in zip(steps, steps[1:]):
-        line = step["geometry"]["coordinates"]
-        assert line[-1] == then["geometry"]["coordinates"][0] == then["maneuver"]["location"] and len(line) > 1
-    names = [step["name"] or step.get("ref", "") for step in steps]
-    assert all(name in names for name in filter(None, leg["summary"].split(", ") if not any(", " in name for name in names) else [])), leg["summary"]
-    for step in steps:
-        assert step["intersections"][0]["location"] == step["maneuver"]["location"]
-        for each in step["intersections"]:
-            assert len(each["bearings"]) == len(each["entry"]) and each["bearings"] == sorted(each["bearings"])
-            assert all(0 <= bearing < 360 for bearing in each["bearings"]) and ("out" not in each or each["entry"][each["out"]])
 
 
 # Random maps.
@@ -472,7 +468,7 @@ def path_of(teller, start, end, nodes):
 GROUPS = (
     (("python3-numpy", "python3-scipy", "python3-shapely"), [
         turns_at_a_cross, where_roads_end_and_bend, slight_ways, fast_roads, exits_of_rings, names_that_change_beside_a_turn, restrictions_close_branches,
-        steps_add_up, what_is_kept_changes_no_answer, lone_routes_are_those_found_together,
+        nobody_turns_round_beside_a_forbidden_turn, steps_add_up, what_is_kept_changes_no_answer, lone_routes_are_those_found_together,
         random_maps_agree_with_the_other_teller,
     ]),
 )

@@ -1,17 +1,21 @@
-"""Requests in OSRM's form with options that are drawn, most of them as they should be, some strange."""
+"""Requests in OSRM's form, and in JSON, with options that are drawn, most of them as they should be, some strange."""
+import json
 import math
+import re
 import urllib.parse
+
+from helpers.running import ROOT
 
 WORDS = ("", "true", "false", "x", "0", "1", "-1", "all", "nan", "1e9", "%00", "any", "default", "unlimited")
 OF_LINES = {
     "overview": ("simplified", "full", "false"), "geometries": ("polyline", "polyline6", "geojson"), "steps": ("true", "false"),
-    "annotations": ("true", "false", "nodes", "duration,distance", "speed,nodes,datasources", "weight"),
+    "annotations": ("true", "false", "nodes", "duration,distance", "speed,nodes,datasources", "weight", "distance"),
 }
-OF_ALL = {"generate_hints": ("true", "false"), "skip_waypoints": ("true", "false"), "snapping": ("default", "any"), "exclude": ("", "toll", "motorway")}
+OF_ALL = {"generate_hints": ("true", "false"), "skip_waypoints": ("true", "false"), "snapping": ("default", "any"), "exclude": ("", "toll", "motorway", "ferry,toll")}
 OPTIONS = {
     "route": OF_LINES | {"alternatives": ("true", "false", "3"), "continue_straight": ("default", "true", "false")},
     "table": {
-        "annotations": ("duration", "distance", "duration,distance"), "scale_factor": ("2", "0.5"), "fallback_speed": ("10", "0.5", "0"),
+        "annotations": ("duration", "distance", "duration,distance", "distance,duration"), "scale_factor": ("2", "0.5"), "fallback_speed": ("10", "0.5", "0"),
         "fallback_coordinate": ("input", "snapped"), "sources": ("0", "all", "1;0"), "destinations": ("1", "all", "0;1"),
     },
     "nearest": {"number": ("1", "3", "7")},
@@ -73,7 +77,7 @@ def drawn_request(draw, places):
 
 def text_of(draw, places):
     """Places in one of the forms that an address may have them in."""
-    import polyline  # Debian's package is there once a check that needs it is begun.
+    import polyline  # Debian's package is installed before a check that needs it starts.
 
     luck = draw.random()
     if luck < 0.1:
@@ -81,3 +85,40 @@ def text_of(draw, places):
         return f"polyline{'6' * (digits == 6)}({urllib.parse.quote(polyline.encode([(y, x) for x, y in places], digits))})"
     text = ";".join(f"{x:.6f},{y:.6f}" for x, y in places)
     return urllib.parse.quote(text) if luck < 0.15 else f"{text}.json" if luck < 0.2 else text
+
+
+def options_of_the_page():
+    """The options that docs/SERVICE.md names, each with a service: {(service, option)}."""
+    text = (ROOT / "docs" / "SERVICE.md").read_text().partition("| of | option |")[2].partition("\n\n")[0]
+    found, of = set(), ()
+    for first, names in re.findall(r"^\| ([^|]*?) ?\| (`[^|]*?) \|", text, re.MULTILINE):
+        of = (*OPTIONS,) if first == "all services" else re.findall(r"`(\w+)`", first) or of
+        found |= {(service, name) for service in of for name in re.findall(r"`(\w+)`", names)}
+    assert {name for service, name in found if service == "nearest"} > {"number", "hints"} and len(found) > 60, found
+    return found
+
+
+STRANGE = None, True, "x", "", -1, 0.5, 10**400, 1e999, [], {}, [[]], [9.5], [9.5, "47.1"], [9.5, 47.1, 0], [200, 0], [9.5, -91]
+
+
+def drawn_object(draw, places):
+    """The address of a request in JSON, and its body: about one in three is strange."""
+    def value(usual):
+        return draw.choice(STRANGE) if draw.random() < 0.06 else usual
+
+    def listed(most):
+        return value([value(list(drawn_place(draw, places))) for _ in range(draw.randint(1, most))])
+
+    path = draw.choice(("route", "table", "table", "reach"))
+    if path == "route":
+        found = {"from": value(list(draw.choice(places))), "to": value(list(drawn_place(draw, places)))}
+    elif path == "table":
+        found = {"sources": listed(9), "targets": listed(9)} | ({"within": value(draw.randrange(10**6))} if draw.random() < 0.4 else {})
+    else:
+        found = {"from": value(list(draw.choice(places))), "limits": value([value(draw.randrange(1, 400_000)) for _ in range(draw.randint(1, 3))])}
+    if draw.random() < 0.04:
+        found[draw.choice([*found, "strange"])] = draw.choice(STRANGE)
+    if draw.random() < 0.04:
+        del found[draw.choice([*found])]
+    text = json.dumps(value(found))
+    return f"/api/{path}", text[:draw.randrange(len(text))] if draw.random() < 0.02 else text

@@ -13,6 +13,8 @@ VADUZ, ESCHEN, MALBUN = (9.5209, 47.1410), (9.5450, 47.2200), (9.6079, 47.1020)
 THREE, OF_TOWN = (VADUZ, ESCHEN, MALBUN), ((13.2632, 53.5511), (13.2795, 53.5623), (13.2850, 53.5525))
 # An answer rounds metres to tenths, and a place to millionths of a degree, which is 0.11 m.
 TENTH, MILLIONTH = 0.051, 0.000_000_6
+# What lies between the places of a leg, as annotations name it.
+PARTS = {"distance", "duration", "weight", "speed", "datasources"}
 
 
 def three():
@@ -87,3 +89,31 @@ def distance_to(x, y, line):
         part = min(1, max(0, -(a * (c - a) + b * (d - b)) / square)) if square else 0
         best = min(best, math.hypot(a + part * (c - a), b + part * (d - b)))
     return best
+
+
+def check_annotation(leg, line):
+    parts = leg["annotation"]
+    assert set(parts) == PARTS | {"nodes", "metadata"} and {len(parts[name]) for name in PARTS} == {len(line) - 1} and len(parts["nodes"]) == len(line)
+    assert abs(sum(parts["distance"]) - leg["distance"]) < 0.5 and abs(sum(parts["duration"]) - leg["duration"]) < 1e-6
+    assert parts["weight"] == parts["duration"] and set(parts["datasources"]) == {0} and len(parts["metadata"]["datasource_names"]) == 1
+    for metres, seconds, speed in zip(parts["distance"], parts["duration"], parts["speed"]):
+        assert metres >= 0 and seconds >= 0 and abs(speed - (metres / seconds if seconds else 0)) <= 0.051 + 0.001 / (seconds or 1), (metres, seconds, speed)
+    for told, (start, end) in zip(parts["distance"], zip(line, line[1:])):
+        assert abs(on_sphere(start[::-1], end[::-1]) - told) < 0.3
+
+
+def check_leg(leg):
+    steps = leg["steps"]
+    assert [step["maneuver"]["type"] for step in (steps[0], steps[-1])] == ["depart", "arrive"]
+    assert abs(sum(step["distance"] for step in steps) - leg["distance"]) < 0.06 * len(steps) + 0.5, leg
+    assert abs(sum(step["duration"] for step in steps) - leg["duration"]) < 1e-6 and steps[-1]["distance"] == steps[-1]["duration"] == 0
+    for step, then in zip(steps, steps[1:]):
+        line = step["geometry"]["coordinates"]
+        assert line[-1] == then["geometry"]["coordinates"][0] == then["maneuver"]["location"] and len(line) > 1
+    names = [step["name"] or step.get("ref", "") for step in steps]
+    assert all(name in names for name in filter(None, leg["summary"].split(", ") if not any(", " in name for name in names) else [])), leg["summary"]
+    for step in steps:
+        assert step["intersections"][0]["location"] == step["maneuver"]["location"]
+        for each in step["intersections"]:
+            assert len(each["bearings"]) == len(each["entry"]) and each["bearings"] == sorted(each["bearings"])
+            assert all(0 <= bearing < 360 for bearing in each["bearings"]) and ("out" not in each or each["entry"][each["out"]])

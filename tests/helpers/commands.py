@@ -1,4 +1,4 @@
-"""For the tests of the Python package: its commands, calls that have to fail, and what is left of temporary files."""
+"""For the tests of the Python package: its commands, packages that it needs, calls that have to fail, and what is left of temporary files."""
 import contextlib
 import os
 import subprocess
@@ -6,6 +6,13 @@ import tempfile
 
 from helpers.packages import PYTHON
 from helpers.running import ROOT
+
+
+def needs(*packages):
+    """A mark that leaves a test out where one of Debian's packages is missing and can't be installed."""
+    import pytest
+
+    return pytest.mark.needs(*packages)
 
 
 def raises(kind, call, *words, told=""):

@@ -164,7 +164,7 @@ def waiting_at(address):
 
 
 def browser(*size):
-    """A browser whose page is of this size. Its package is there once a check that needs it is begun."""
+    """A browser whose page is of this size. Its package is installed before a check that needs it starts."""
     from helpers.browser import Browser
 
     return Browser(*size)
