@@ -4,6 +4,7 @@ The scripts beside this file use it.
 """
 import contextlib
 import functools
+import hashlib
 import os
 import re
 import signal
@@ -16,6 +17,8 @@ ROOT = Path(__file__).resolve().parent.parent
 CRATES = ROOT / "crates"
 # The program, and the crate of the library for C.
 PROGRAM, LIBRARY = "chtab", "ch_c"
+# The parts of a crate that a check reads.
+PARTS = "src", "specs", "proofs"
 TARGET = "x86_64-unknown-linux-gnu"
 # So many seconds after a line of progress the next one comes, if nothing has ended before.
 SILENCE = 45
@@ -46,6 +49,21 @@ def all_below(name):
 def kit():
     """The folder of the kit, and its line."""
     return Path(said("rt", "doc")).parent, said("rt", "version")
+
+
+def files_of(name):
+    return sorted(path for part in PARTS for path in (CRATES / name / part).rglob("*") if path.is_file())
+
+
+def sums(ends):
+    """A sum of all that each library, and each of these ends of the chain, is made of, as the files stand now."""
+    found = {}
+    for name in dict.fromkeys(each for end in ends for each in (*all_below(end), end)):
+        made = hashlib.sha256(repr((kit()[1], stands_on()[name], [found[each] for each in own_below(name)])).encode())
+        for path in files_of(name):
+            made.update(repr((str(path.relative_to(CRATES)), path.read_bytes())).encode())
+        found[name] = made.hexdigest()
+    return found
 
 
 def finding(names, library_of):
