@@ -15,7 +15,7 @@ import tempfile
 import zipfile
 from pathlib import Path
 
-from helpers.fresh_proofs import check_first_proofs
+from helpers.fresh_proofs import check_first_proofs, check_verdicts_of_the_gate
 from helpers.in_process import MADE, SHARED, make
 from helpers.packages import PYTHON, missing
 from helpers.rooting import a_root
@@ -270,7 +270,7 @@ def check_description(tally, package):
     strange = [line for line in listed if " root/root " not in line or re.match(r".{5}w|.{8}w", line) and not line.startswith("l")]
     tally.expect(listed and not strange, f"files of others in the package, or that others may write: {strange}")
     text = subprocess.run(f'dpkg-deb --fsys-tarfile "{package}" | tar -xO ./usr/share/doc/chtab/verdicts', shell=True, capture_output=True, text=True).stdout
-    proved = re.findall(r"^(\w+): logic=proved functions=\d+ ", text, re.MULTILINE)
+    proved = re.findall(r"^(\w+): (?:logic=proved functions=\d+|kept:) ", text, re.MULTILINE)
     tally.expect(sorted(proved) == sorted(crates_of_the_package()), f"the package has verdicts of {proved}")
     for file in PROGRAM, SHARED:
         tally.expect(hashlib.sha256(file.read_bytes()).hexdigest() in text, f"the package names another {file.name} than the one that was made")
@@ -453,6 +453,7 @@ def main():
         check_without_rt(tally, folder)
         check_verdicts(tally, folder)
         check_first_proofs(tally, folder, SYSTEM)
+        check_verdicts_of_the_gate(tally, folder, SYSTEM)
         check_lines_of_the_kit(tally)
         check_install(tally, folder)
         check_package(tally, folder)

@@ -1,4 +1,5 @@
-"""Tests packaging/prove and packaging/library with a stand-in for the kit: crates that are refused, changed or touched, and calls that are broken off."""
+"""Tests packaging/prove, packaging/library and packaging/verdicts with a stand-in for the kit: crates that are refused, changed or touched, calls that
+are broken off, and crates that an earlier run has proved."""
 import os
 import shutil
 import signal
@@ -56,7 +57,7 @@ class Checkout:
         for head in CRATES:
             self.write(head.split()[0].strip(":"), f"// {head}\n")
         (self.path / "crates.txt").write_text("".join(f"{head}\n" for head in CRATES))
-        for name in "chtab", "VERSION", "include/chtab.h", "packaging/prove", "packaging/building.py", "packaging/library":
+        for name in "chtab", "VERSION", "include/chtab.h", "packaging/prove", "packaging/building.py", "packaging/library", "packaging/verdicts":
             (self.path / name).parent.mkdir(exist_ok=True)
             shutil.copy(ROOT / name, self.path / name)
         for name, text in {**KIT, **dict.fromkeys(("bin/gcc", "bin/ld", "bin/ar", "bin/objcopy"), LINKING)}.items():
@@ -182,3 +183,39 @@ def check_broken_off(tally, checkout):
     tally.expect(left is not None and not left.stdout, f"a call that is ended: {running.returncode} {left}")
     checkout.say("slow")
     tally.expect(checkout.built()[:4] == (0, "run one\n", ["low", "high", "chtab"], ["engine", "ch_c"]), f"after a call that was ended: {checkout.said('asked')}")
+
+
+# What `rt ci` prints of crates that it proves, that it refuses, and that an earlier run has proved.
+LINE = "logic=proved functions={1} sum=1"
+PROVED = f"== {{0}}\nfn {{0}}::one: proved\nlogic=proved functions=9 of its libraries\n{LINE}\nrt: {{0}} proved\n"
+REFUSED = "== {0}\nfn {0}::one: not proved\nrt: {0} NOT PROVED\n"
+EARLIER = "rt: {0} is kept: an earlier run on this machine proved the same files\n"
+KEPT = "kept: an earlier run on this machine proved the same files"
+
+
+def check_verdicts_of_the_gate(tally, folder, system):
+    """Of a crate that an earlier run has proved, `rt ci` prints no line of the prover. That of an earlier log holds while the files are the same."""
+    (folder / "gate").mkdir()
+    checkout = Checkout(folder / "gate", system)
+    names = [head.split()[0].strip(":") for head in CRATES]
+
+    def kept_after(*forms):
+        """The verdict of each crate, None where there is none, after a run of `rt ci` that printed this of them."""
+        log = checkout.path / "log"
+        log.write_text("".join(form.format(name, 3) for name, form in zip(names, forms)))
+        for name in names:
+            shutil.rmtree(checkout.path / "crates" / name / "out", ignore_errors=True)
+        told = checkout.run("packaging/verdicts", log)
+        tally.expect((told.returncode, told.stderr) == (0, ""), f"the verdicts of {forms}: {told}")
+        files = [checkout.path / "crates" / name / "out" / "verdict" for name in names]
+        return [path.read_text().rstrip() if path.exists() else None for path in files], told.stdout
+
+    line, others = LINE.format("", 3), [None] * (len(CRATES) - 3)
+    found, told = kept_after(PROVED, REFUSED, EARLIER)
+    tally.expect(found == [line, None, KEPT, *others], f"verdicts of a run: {found}")
+    tally.expect("proved by this run: low\n" in told and "whose lines are not here: high\n" in told and "none of: aside " in told, f"what is said of them: {told}")
+    found, told = kept_after(EARLIER, PROVED, PROVED)
+    tally.expect(found == [line, line, line, *others], f"verdicts of two runs: {found}")
+    checkout.write("low", "// changed\n")
+    found, _ = kept_after(EARLIER, EARLIER, EARLIER)
+    tally.expect(found == [KEPT, line, KEPT, *others], f"verdicts of files that have changed: {found}")
