@@ -21,7 +21,7 @@
  * Threads. Make one call at a time with a handle: if two threads use one at once, a call may return CHTAB_OK with a wrong
  * answer, and the network may be lost. Give each thread a handle of its own with chtab_share, and a topology of its own with
  * chtab_topology_share: they share one network, or one topology, in memory. Do not call from a signal handler. In a forked
- * child of a process that had threads, do not call with the handles of the parent: open new ones.
+ * child, do not call with a handle that a thread of the parent may have been calling with: share another one, or open one.
  *
  * Your duties. The library cannot test these:
  *   - A pointer is not NULL, even if its length is 0, and points to as many elements as its length says.

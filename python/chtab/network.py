@@ -102,10 +102,10 @@ class Network:
     which are integers, strings or tuples; calls take and return these labels. On a map with
     restricted turns, a crossing is called by one node, in all calls.
 
-    Threads and forked processes may share a network, and it can be pickled. A process that was
-    forked, or that unpickles it, loads it once for itself. The network is closed by `close`, at the
-    end of a `with`, when it is no longer used, and at the end of the interpreter. A process keeps
-    the last four networks that it unpickled.
+    Threads and forked processes share a network in memory, and it can be pickled. A process that
+    unpickles it loads it once for itself. The network is closed by `close`, at the end of a `with`,
+    when it is no longer used, and at the end of the interpreter. A process keeps the last four
+    networks that it unpickled.
     """
 
     def __init__(self, files_of: opening.Opening | Made) -> None:
@@ -240,8 +240,8 @@ class Network:
             Whether limits and answers are the whole numbers of the graph, whatever the unit is.
         folder : str or path, optional
             A new or empty folder for the files and the hierarchy, which `Network.open(folder)`
-            opens quickly. By default they are written when another process needs them, for pickle
-            or a fork, into a temporary folder that goes with the network.
+            opens quickly. By default they are written when another process needs them, for pickle,
+            into a temporary folder that goes with the network.
         like : Network, optional
             A network of the same nodes. The new network takes its order, in about half of the time
             of building by depth. The nodes, labels and places of `like` are taken unless others are
@@ -1586,7 +1586,11 @@ MOST_REOPENED = 4
 def reopened(opened: opening.Opening, stamps: Stamps) -> Network:
     """The network of an opening, in a process that unpickles it. It is loaded with the first
     question. Raises a `ProgramFault` if one of its files was written anew since it was pickled."""
-    stamps.see_that_same(is_elsewhere=True)
+    try:
+        stamps.see_that_same(is_elsewhere=True)
+    except FileNotFoundError as fault:
+        text = "The network that was pickled is closed, or its file was removed"
+        raise FileNotFoundError(fault.errno, text, fault.filename) from None
     network = REOPENED.pop(opened, None)
     if network is None or network._engine.is_closed:
         network = Network(opened)

@@ -128,8 +128,8 @@ def test_labels_are_of_any_size():
 
 @pytest.mark.parametrize("old, new", [("4\na 2 3 5", "5\na 2 3 4"), ("a 2 3 5", "a 3 2 5"), ("a 2 3 5\n", ""), ("a 1 2 4\n", "a 1 2 4 \n")])
 def test_files_that_were_written_anew_are_not_read(old, new):
-    """A graph that was written anew is refused by whatever would read it later: a process that is forked, routes, their lines, and changes; so are
-    places. What was read of the one before answers on."""
+    """A graph that was written anew is refused by whatever would read it later: routes, their lines, changes, and a forked process where nothing was
+    read before; so are places. What was read of the one before answers on, in a forked process too."""
     text, told = FIRST.read_text(), "own.gr has changed since it was opened"
     pathlib.Path("own.gr").write_text(text)
     files.write_coordinates("own.co", [(9.5, 47.1)] * 3)
@@ -140,7 +140,7 @@ def test_files_that_were_written_anew_are_not_read(old, new):
         pathlib.Path("own.gr").write_text(text.replace(old, new))
         for call in lambda: network.routes([(1, 3)]), lambda: network.graph, lambda: network.changed({0: 3}), routes.to_geojson:
             raises(chtab.ProgramFault, call, told=told)
-        assert forked(lambda: all(raises(chtab.ProgramFault, call, [1], [3], told=told) for call in (network.distances, network.routes, network.near)))
+        assert forked(lambda: raises(chtab.ProgramFault, network.routes, [1], [3], told=told) and network.distances([1], [3]).tolist() == [9])
         assert network.distances([(1, 3)]).tolist() == [9] == network.table([1], [3])[0].tolist()
         assert known.routes([(1, 3), (2, 3)])[:] == [(1, 3, 9, [1, 2, 3], [4, 5]), (2, 3, 5, [2, 3], [5])]
     with chtab.Network.open("own.gr", program=PROGRAM, load=False) as network, temporary() as left:
@@ -149,6 +149,7 @@ def test_files_that_were_written_anew_are_not_read(old, new):
         files.write_coordinates("own.co", [(9.7, 47.1)] * 3)
         raises(chtab.ProgramFault, network.changed, {0: 3}, told="own.co has changed since it was opened")
         pathlib.Path("own.gr").write_text(text)
+        assert forked(lambda: raises(chtab.ProgramFault, network.distances, [(1, 3)], told=told))
         raises(chtab.ProgramFault, network.distances, [(1, 3)], told=told)
         assert left() == []
 
@@ -198,11 +199,12 @@ def test_a_lack_of_room_is_told_where_a_file_is_needed():
         assert forked(is_told)
 
 
-@pytest.mark.parametrize("more", ["pickle.dumps(network); child = 0", "child = os.fork()\nif not child:\n    sys.stdin.read(); os._exit(0)"])
+@pytest.mark.parametrize("more", ["child = 0", "child = os.fork()\nif not child:\n    sys.stdin.read(); os._exit(0)"])
 @pytest.mark.parametrize("number", [signal.SIGTERM, signal.SIGKILL])
 def test_a_signal_leaves_no_folder(number, more):
     """A process that is ended leaves no temporary folder, also where one that was forked from it lives on: here as long as its input."""
-    text = f"{IMPORT}import pickle; network = chtab.Network.from_arrays([1], [2], [3], program=sys.argv[2])\n{more}\nprint(child, flush=True); time.sleep(10_000)"
+    text = f"{IMPORT}import pickle; network = chtab.Network.from_arrays([1], [2], [3], program=sys.argv[2]); pickle.dumps(network)\n{more}\n"
+    text += "print(child, flush=True); time.sleep(10_000)"
     words, pipes = [PYTHON, "-c", text, ROOT / "python", PROGRAM], {"stdin": subprocess.PIPE, "stdout": subprocess.PIPE}
     with temporary() as left, subprocess.Popen(words, **pipes) as process:
         child = int(process.stdout.readline())

@@ -88,7 +88,7 @@ def test_the_old_network_answers_while_the_new_one_is_built(library):
         assert forked(lambda: others[-1].distances(pair).tolist() == [2 * wanted[0]])
         assert list(threads.map(lambda each: each.distances(pair)[0], [network, others[-1]] * 50)) == [wanted[0], 2 * wanted[0]] * 50
         network.close()
-        assert all(other.distances(pair).tolist() == [2 * wanted[0]] for other in others) and len(left()) == len(others)
+        assert all(other.distances(pair).tolist() == [2 * wanted[0]] for other in others) and left() == []
         for child in children:
             os.waitpid(child, 0)
         for other in others:

@@ -30,9 +30,10 @@ from helpers.nearness import dense
 from helpers.packages import PYTHON
 from helpers.running import PROGRAM, ROOT
 from helpers.science import numpy, pandas
-from helpers.waiting import PATIENCE
+from helpers.waiting import PATIENCE, until
 import chtab
 from chtab import files
+from chtab._engine import library
 from chtab._files import node_labels
 
 # Answers of each process, in parts of so many tables; and how many questions are broken off, and how many are answered, at least.
@@ -162,19 +163,67 @@ def test_a_fork_within_a_question_takes_no_handle():
         assert os.waitpid(children[0], 0)[1] == 0 and is_right, (found, again)
 
 
-def test_who_is_left_asks_on():
-    """A child when its parent has closed the network."""
-    def is_right():
-        return network.distances([(1, 3)]).tolist() == [9] == network.near([1], [3]).weights.tolist()
+@pytest.mark.parametrize("way", ["of files", "of arcs", "of arcs with files", "by the program"])
+def test_who_is_left_asks_on(way):
+    """A child when its parent has closed the network and removed its files, before the first question of the child, which also pickles and changes it."""
+    def opened():
+        more = {"program": PROGRAM, "library": make(), "workers": 2 if way == "by the program" else 1, "nodes": [1, 2, 3], "x": [9.5, 9.6, 9.7], "y": [47.1] * 3}
+        line = [(9.6, 47.1), (9.65, 47.2), (9.7, 47.1)]
+        return of_first() if way == "of files" else chtab.Network.from_arrays([1, 2], [2, 3], [4, 5], geometry=[None, line], **more)
 
-    with of_first() as network:
-        assert is_right()
+    def is_right():
+        routes = network.routes([(1, 3)])
+        line = [] if way == "of files" else routes.to_geojson()["features"][0]["geometry"]["coordinates"]
+        return network.distances([(1, 3)]).tolist() == [9] == network.near([1], [3]).weights.tolist() and routes[0].nodes == [1, 2, 3] and len(line) in (0, 4)
+
+    def is_whole():
+        with network.changed({0: 7}) as other:
+            again = pickle.loads(pickle.dumps(network)), pickle.loads(pickle.dumps(other))
+            return is_right() and [each.distances([(1, 3)]).tolist() for each in again] == [[9], [12]]
+
+    with temporary() as left, opened() as network:
+        texts = [pickle.dumps(network)] if way != "of arcs" else []
         (closed, tell), child = os.pipe(), os.fork()
         if not child:
-            os._exit(0 if os.read(closed, 1) and forked(is_right) else 1)
+            os._exit(0 if os.read(closed, 1) and forked(is_whole) and is_whole() and is_right() else 1)
         network.close()
+        assert left() == []
         os.write(tell, b".")
         assert os.waitpid(child, 0)[1] == 0
+        if way in ("of arcs with files", "by the program"):
+            raises(FileNotFoundError, pickle.loads, *texts, told="The network that was pickled is closed")
+        # What the child and its own child have written goes with them.
+        until(lambda: left() == [])
+
+
+def test_a_fork_writes_and_reads_nothing(monkeypatch):
+    """A process that is forked has each network in memory, also the process that is forked from it: nothing is opened or built anew, and no file is
+    written before it is needed."""
+    def is_shared():
+        for name in "open", "open_arrays", "open_like", "customized", "save":
+            monkeypatch.setattr(library.Handle, name, lambda *_: os._exit(3))
+        return all(told_by(each) == told for each, told in zip(networks, wanted)) and all(each._engine.begun == 1 for each in networks)
+
+    with temporary() as left, of_squares() as base, base.changed({7: 0.5}) as changed, base.customizable().changed({9: 2.0}) as customized:
+        networks, wanted = (base, changed, customized), [told_by(each) for each in (base, changed, customized)]
+        assert forked(is_shared) and forked(lambda: forked(is_shared) and is_shared()) and left() == []
+
+
+def test_a_call_that_does_not_end_holds_up_no_fork(monkeypatch):
+    """A process that is forked in such a call of another thread opens the network anew, and has the same answer."""
+    monkeypatch.setattr("chtab._engine.in_process.PATIENCE", 0.1)
+    with of_first() as network, concurrent.futures.ThreadPoolExecutor(1) as threads:
+        begun, over = threading.Event(), threading.Event()
+
+        def call():
+            with network._engine.first.lock:
+                begun.set()
+                return over.wait(PATIENCE)
+
+        asking = threads.submit(call)
+        assert begun.wait(PATIENCE) and forked(lambda: network.distances([(1, 3)]).tolist() == [9] and network._engine.inherited is None)
+        over.set()
+        assert asking.result() and network.distances([(1, 3)]).tolist() == [9]
 
 
 def of_squares(**more):
@@ -200,8 +249,8 @@ def told_by(network):
 
 @pytest.mark.parametrize("way", ["made", "changed", "customized", "opened"])
 def test_files_are_written_once_when_they_are_needed(way):
-    """Without a folder none is written for questions, changes and what a network says of itself. Pickle and forks, by several threads at once, find the
-    same files, which say the same; they go with the network."""
+    """Without a folder none is written for questions, changes, forks and what a network says of itself. Pickle, by several threads at once while others
+    fork, finds the same files, which say the same; they go with the network."""
     with temporary() as left, contextlib.ExitStack() as kept:
         network = base = kept.enter_context(of_squares(**{"folder": "own"} if way == "opened" else {}))
         if way == "customized":
@@ -211,13 +260,13 @@ def test_files_are_written_once_when_they_are_needed(way):
         told = told_by(network)
         with network.changed(closed=[100], added=[("n00", "n99", 0.5)]) as other:
             assert other.distances([("n00", "n99")]) == 0.5 and told_by(network) == told
-        assert repr(network) == f"<chtab.Network of {len(network.graph.tails)} arcs: 100 nodes>" and left() == []
+        assert repr(network) == f"<chtab.Network of {len(network.graph.tails)} arcs: 100 nodes>" and forked(lambda: told_by(network) == told) and left() == []
         with concurrent.futures.ThreadPoolExecutor(8) as threads:
             asking = [threads.submit(forked, lambda: told_by(network) == told and forked(lambda: told_by(network) == told)) for _ in range(4)]
             texts = [*threads.map(pickle.dumps, [network] * 8), pickle.dumps(network.routes([("n00", "n99")]))]
             assert all(each.result(PATIENCE) for each in asking) and len({*texts}) == 2
         written = left()
-        assert len(written) == 1 + (way in ("changed", "customized")) and told_by(pickle.loads(texts[0])) == told
+        assert len(written) == 1 and told_by(pickle.loads(texts[0])) == told
         assert pickle.loads(texts[-1])[:] == network.routes([("n00", "n99")])[:] and bool(network._opened.order) == (way == "customized")
         assert forked(lambda: told_by(network) == told) and left() == written
         kept.close()

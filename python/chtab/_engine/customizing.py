@@ -28,7 +28,7 @@ class Customizing:
         self.calls, self.nodes, self.tails, self.heads = calls, nodes, tails, heads
         self.order = order
         self.leave_parent()
-        forks.follow(self)
+        forks.FOLLOWED.add(self)
 
     def leave_parent(self) -> None:
         """Resets to no topology and to a free lock, at first and in each forked process."""

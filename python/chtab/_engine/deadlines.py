@@ -16,12 +16,7 @@ class Deadline:
 
     def __init__(self, seconds: float | None) -> None:
         self.seconds = math.inf if seconds is None else seconds
-        self.until = time.monotonic() + self.seconds
-
-    @property
-    def is_open(self) -> bool:
-        """Whether there is no limit."""
-        return math.isinf(self.until)
+        self.until, self.is_open = time.monotonic() + self.seconds, math.isinf(self.seconds)
 
     def check(self) -> None:
         """Raises `TimedOut` if the time is over."""

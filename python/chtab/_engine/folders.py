@@ -1,5 +1,4 @@
-"""Temporary folders that are removed with the object that keeps them, and also when a signal ends
-the process."""
+"""Temporary folders that go with the object that keeps them, and if a signal ends the process."""
 from __future__ import annotations
 
 import contextlib
@@ -33,7 +32,7 @@ class Folder:
             self.remove.detach()
             self.remove = weakref.finalize(self, remove_in, os.getpid(), self.path, watcher)
             self.watcher = watcher
-            forks.follow(self)
+            forks.FOLLOWED.add(self)
 
     def leave_parent(self) -> None:
         """Closes this process's end of the pipe that the shell waits for, in a forked process."""

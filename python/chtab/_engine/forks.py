@@ -2,8 +2,9 @@
 
 A forked process has copies of all that its parent holds. Among these are the pipes of the parent's
 runs, and locks that are held by threads of the parent, which don't exist in the forked process and
-would never release them. An object that keeps such things calls `follow`, and its `leave_parent` is
-then called in each forked process. Those of `PREPARED` have their `before_fork` called before.
+would never release them. An object that keeps such things is one of `FOLLOWED`, and its
+`leave_parent` is called in each forked process. Those of `PREPARED` have their `before_fork` called
+before, and `after_fork` in the parent.
 """
 from __future__ import annotations
 
@@ -24,15 +25,16 @@ FOLLOWED: weakref.WeakSet[Any] = weakref.WeakSet()
 PREPARED: weakref.WeakSet[Any] = weakref.WeakSet()
 
 
-def follow(thing: Any) -> None:
-    """Calls `thing.leave_parent()` in each forked process, as long as the object exists."""
-    FOLLOWED.add(thing)
-
-
 def prepare() -> None:
     STEADY.acquire()
     for thing in list(PREPARED):
         thing.before_fork()
+
+
+def go_on() -> None:
+    for thing in list(PREPARED):
+        thing.after_fork()
+    STEADY.release()
 
 
 def leave_parents() -> None:
@@ -62,4 +64,4 @@ class computed_once(Generic[Value]):
 
 
 os.register_at_fork(
-    before=prepare, after_in_parent=STEADY.release, after_in_child=leave_parents)
+    before=prepare, after_in_parent=go_on, after_in_child=leave_parents)

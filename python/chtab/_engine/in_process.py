@@ -1,5 +1,4 @@
-"""Answers by the library for C, in this process: each thread has a handle on the one network in
-memory."""
+"""Answers by the library for C, in this process: each thread has a handle on the one network."""
 from __future__ import annotations
 
 import contextlib
@@ -47,6 +46,8 @@ ROOM = 1 << 16
 SMALL, SEARCHES = 1 << 16, 1 << 4
 # No places: keeping these frees the places that a handle has.
 NO_PLACES = numpy.zeros(0, numpy.uint32)
+# The most seconds that a fork waits for the end of a call, to share the network with its process.
+PATIENCE = 10.0
 
 
 def share_nodes(sources: library.Nodes, targets: library.Nodes) -> bool:
@@ -81,8 +82,9 @@ class InProcess:
 
     # The first question of a thread makes a handle for it, on the one network in memory. The first
     # handle opens it, and belongs to the first thread that asks, or after its end to the next new
-    # one. A forked process opens the network anew, and leaves the handles of its parent alone.
-    # Tails, heads and weights of arcs go to the library in place of the graph's file.
+    # one. A forked process has handles of its own, on the network that its parent has in memory,
+    # unless the parent had none, or a call of its first handle did not end in time. Tails, heads
+    # and weights of arcs go to the library in place of the graph's file.
     def __init__(self, setting: Setting, made: Made | None = None) -> None:
         for path in setting.files():
             open(path, "rb").close()
@@ -91,11 +93,31 @@ class InProcess:
         self.nodes = made.arcs.labels.count if made else files.counts_in(setting.graph)[0]
         if made is not None:
             made.go_with(self)
+        # The handle of which no call is under way while a process is forked.
+        self.lent: library.Handle | None = None
         self.leave_parent()
-        forks.follow(self)
+        forks.FOLLOWED.add(self)
+        with forks.STEADY:
+            forks.PREPARED.add(self)
+
+    def before_fork(self) -> None:
+        """Waits for the end of a call of the first handle, and lets none begin."""
+        lent = self.first or self.inherited
+        if lent is not None and lent.lock.acquire(timeout=PATIENCE):
+            self.lent = lent
+
+    def after_fork(self) -> None:
+        """Lets calls begin again."""
+        lent, self.lent = self.lent, None
+        if lent is not None:
+            lent.lock.release()
 
     def leave_parent(self) -> None:
-        """Resets to no handles and to a free lock, at first and in each forked process."""
+        """Resets to no handles and to free locks, at first and in each forked process."""
+        # The handle of the parent that gives this process one of its own.
+        self.inherited, self.lent = self.lent, None
+        if self.inherited is not None:
+            self.inherited.lock = threading.RLock()
         self.lock, self.owner, self.begun = threading.RLock(), os.getpid(), 0
         self.of_thread = OfThread()
         self.handles: weakref.WeakSet[library.Handle] = weakref.WeakSet()
@@ -130,13 +152,13 @@ class InProcess:
 
     def opened(self) -> library.Handle:
         """Opens the first handle."""
-        made, setting, stamps = self.made, self.setting, self.stamps
-        if made is not None and not setting.graph:
-            setting, stamps = made.setting, made.stamps
+        if self.inherited is not None:
+            return self.inherited.share()
+        made, setting = self.made, self.setting
         graph = pathlib.Path(setting.graph).read_bytes() if made is None else b""
         saved = pathlib.Path(setting.saved).read_bytes() if setting.saved else self.built()
         # Checked after reading, so that what was read is what was there at first.
-        stamps.see_that_same()
+        self.stamps.see_that_same()
         handle = library.Handle(self.calls)
         if made is None:
             interruptible(LONG, handle.open, graph, saved)
@@ -203,8 +225,7 @@ class InProcess:
             first = self.first_handle()
             handle = self.spare.pop() if self.spare else None
         handle = handle or self.another(first)
-        # A process that is forked meanwhile has a list of its own, and this handle stays with its
-        # parent.
+        # A process that is forked meanwhile has a list of its own, without this handle.
         spare = self.spare
         yield handle
         # A network that was closed meanwhile has answered this question.

@@ -35,8 +35,7 @@ NAME = "libchtab.so.1"
 # The limit that excludes no distance, and the distance where there is no walk, which is -1 as a
 # signed number of 64 bits.
 NO_LIMIT = NO_DISTANCE = 2**64 - 1
-# The number of places of a near row that excludes none, and the line for a node that no arc leads
-# to.
+# The number of places of a near row that excludes none; the line for a node that no arc leads to.
 ALL = NO_LINE = 2**32 - 1
 # The faults of files, by the number of `chtab_fault_kind`, in the words of the program.
 KINDS = (

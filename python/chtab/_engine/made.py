@@ -1,5 +1,4 @@
-"""Networks of arcs. All that is known of one is in memory, and its files are written when something
-first needs them."""
+"""Networks of arcs, which are in memory. Their files are written when something needs them."""
 from __future__ import annotations
 
 import contextlib
@@ -27,10 +26,9 @@ if TYPE_CHECKING:
 
 class Made:
     """A network of arcs, and its files. Unless the caller names a folder they are written into a
-    temporary one, once: for pickle, for a run of the program, or for a process that is forked."""
+    temporary one, once: for pickle, or for a run of the program."""
 
     # They are written while no process is forked, so that each process finds all of them or none.
-    # One that finds none, because the disk was full, builds the hierarchy anew if it asks.
     def __init__(self, arcs: Arcs, running: Running, setting: Setting) -> None:
         # Columns take less memory than lists of points.
         self.bends = making.bend_columns(arcs.bends) if arcs.bends else None
@@ -41,12 +39,11 @@ class Made:
         self.stamps = Stamps()
         # What answers, and has the hierarchy. It may be gone before its layers are.
         self.engine: Callable[[], InProcess | None] = lambda: None
-        with forks.STEADY:
-            forks.PREPARED.add(self)
 
     def opening(self) -> Opening:
-        """The opening of the files, which are written now if they were not."""
+        """The opening of the files, which are written now if they are not there."""
         with forks.STEADY, deadlines.uncounted():
+            self.see_to_folder()
             if self.opened is None:
                 engine = self.engine()
                 if engine is None:
@@ -58,6 +55,11 @@ class Made:
                     engine.see_that_open()
                 self.go_with(engine)
             return cast(Opening, self.opened)
+
+    def see_to_folder(self) -> None:
+        """Forgets a temporary folder of the parent of this process, once it is removed."""
+        if self.folder is not None and not os.path.exists(self.folder.path):
+            self.opened = self.folder = None
 
     def go_with(self, engine: InProcess) -> None:
         """Has the temporary folder removed with what answers, at the latest."""
@@ -103,17 +105,11 @@ class Made:
     def customize(self, customizing: Customizing) -> None:
         """Keeps an order for weights in the folder, or for the time when there is one."""
         with forks.STEADY:
+            self.see_to_folder()
             if self.opened is not None:
                 path = customizing.keep(os.path.dirname(self.setting.graph))
                 self.opened = dataclasses.replace(self.opened, order=path)
             self.customizing = customizing
-
-    def before_fork(self) -> None:
-        """Writes the files for a process that is about to be forked, if that can be done."""
-        engine = self.engine()
-        if self.opened is None and engine is not None and engine.first is not None:
-            with contextlib.suppress(Exception):
-                self.opening()
 
     def close(self) -> None:
         """Removes the temporary folder, if there is one, once no file is being written."""

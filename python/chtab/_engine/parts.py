@@ -53,10 +53,6 @@ class Parts:
                 share = min(GROWTH, SECONDS / max(seconds, 1e-6))
                 self.size = max(1, min(self.most, int(done * share)))
 
-    def stop(self) -> None:
-        """Ends all threads after the parts that they make."""
-        self.is_stopped = True
-
 
 def make(
     count: int, most: int, workers: int, work: Callable[[Iterator[slice]], None],
@@ -76,5 +72,6 @@ def make(
                     for each in concurrent.futures.as_completed(made):
                         each.result()
                 finally:
-                    parts.stop()
+                    # The threads end after the parts that they make.
+                    parts.is_stopped = True
     deadline.check()

@@ -79,8 +79,7 @@ def watch(process: subprocess.Popen[bytes], lines: IO[bytes], progress: Progress
             pass
         if not progress:
             continue
-        # Read by `pread`, because the process writes to the same open file, and shares its
-        # position.
+        # Read by `pread`, because the process shares the position of the open file.
         some = os.pread(lines.fileno(), 1 << 20, read)
         complete = some[:some.rfind(b"\n") + 1]
         read += len(complete)

@@ -1,5 +1,4 @@
-"""Routes of many queries in flat arrays, for callers that need sums over their arcs rather than
-each route."""
+"""Routes of many queries in flat arrays, for callers that need sums over their arcs."""
 from __future__ import annotations
 
 from dataclasses import dataclass

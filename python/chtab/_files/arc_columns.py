@@ -1,5 +1,4 @@
-"""Makes the arcs of a graph from columns of labels and weights. Whatever the program would refuse
-is refused here."""
+"""Makes the arcs of a graph from columns of labels and weights, and refuses what is no arc."""
 from __future__ import annotations
 
 import math

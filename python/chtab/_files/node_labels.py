@@ -1,5 +1,4 @@
-"""The labels of the nodes of a network. The program numbers nodes from 1 on; callers may have their
-own labels."""
+"""The labels of the nodes of a network, which the program numbers from 1 on."""
 from __future__ import annotations
 
 import collections

@@ -131,7 +131,7 @@ def on_cluster(engine: InProcess, found: Iterable[Block], make: Make, client: An
 
 def rows_on_worker(engine: InProcess, question: NearQuestion) -> near_rows.Rows:
     """All rows of a question, on a worker of Dask."""
-    return near_rows.together(rows_by(engine, question))
+    return near_rows.below([rows for _, rows in rows_by(engine, question)])
 
 
 def values(
@@ -179,7 +179,7 @@ def rows(
 ) -> near_rows.Rows:
     """All rows of a question with lists of any length."""
     def make(_: Block, portions: Iterable[tuple[int, near_rows.Rows]]) -> near_rows.Rows:
-        return near_rows.together(portions)
+        return near_rows.below([rows for _, rows in portions])
 
     parts: dict[int, list[tuple[int, near_rows.Rows]]] = {}
     for block, found in values(engine, question, make, workers, progress):

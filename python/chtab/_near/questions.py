@@ -1,5 +1,4 @@
-"""Questions of callers on nearness: their sources, targets, values and limits as nodes and
-numbers."""
+"""Questions on nearness: callers' sources, targets, values and limits as nodes and numbers."""
 from __future__ import annotations
 
 from collections.abc import Callable, Sequence

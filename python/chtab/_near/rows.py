@@ -2,7 +2,7 @@
 source in order of weight and place."""
 from __future__ import annotations
 
-from collections.abc import Iterable, Sequence
+from collections.abc import Sequence
 from dataclasses import dataclass
 from typing import TYPE_CHECKING
 
@@ -69,8 +69,3 @@ def beside(parts: Sequence[tuple[int, Rows]], count: int | None = None) -> Rows:
         return joined
     is_first = joined.ranks() < count
     return rows_of(numpy.minimum(counts, count), joined.places[is_first], joined.weights[is_first])
-
-
-def together(portions: Iterable[tuple[int, Rows]]) -> Rows:
-    """Joins the rows of all portions."""
-    return below([rows for _, rows in portions])

@@ -1,5 +1,4 @@
-"""Items that are found by a number, many at a time: the arcs of rows, of ways, or between two
-nodes."""
+"""Items that are found by a number, many at a time, such as the arcs of rows, or of ways."""
 from __future__ import annotations
 
 from typing import TYPE_CHECKING, NamedTuple, Self

@@ -62,26 +62,25 @@ class Layers:
 
     def __init__(self, files_of: Opening | Made) -> None:
         self.files_of, self.asked = files_of, files_of.asked
-        opened = files_of.opened if isinstance(files_of, Made) else files_of
-        if opened is not None:
-            base, self.path = os.path.splitext(opened.setting.graph)[0], opened.setting.graph
-            # Paths, or the contents of files that are in memory.
-            self.paths: dict[str, Any] = {
-                "coordinates": opened.coordinates or beside(base + ".co"),
-                "bends": opened.bends or beside(base + ".bends"), "labelling": opened.labelling,
+        self.kept: dict[str, Any] = {}
+        # Paths, or the contents of files that are in memory.
+        self.paths: dict[str, Any]
+        if isinstance(files_of, Made):
+            arcs, opened, self.stamps = files_of.arcs, files_of.opened, Stamps()
+            self.path = opened.setting.graph if opened else f"a network of {len(arcs.tails):,} arcs"
+            places, names = (None, None) if arcs.beside is None else arcs.beside.contents
+            self.paths = {"coordinates": places, "names": names, "bends": files_of.bends}
+            self.kept |= making.known_of(arcs)
+        else:
+            base, self.path = os.path.splitext(files_of.setting.graph)[0], files_of.setting.graph
+            self.paths = {
+                "coordinates": files_of.coordinates or beside(base + ".co"),
+                "bends": files_of.bends or beside(base + ".bends"), "labelling": files_of.labelling,
                 "streets": beside(base + ".names"), "ways": beside(base + ".ways")}
             self.stamps = Stamps(self.path, *self.paths.values())
             self.paths["names"] = beside(base + ".nodes")
-        self.kept: dict[str, Any] = {}
-        if isinstance(files_of, Made):
-            self.kept |= making.known_of(files_of.arcs)
-        if isinstance(files_of, Made) and opened is None:
-            self.path, self.stamps = f"a network of {len(files_of.arcs.tails):,} arcs", Stamps()
-            others = files_of.arcs.beside
-            places, names = (None, None) if others is None else others.contents
-            self.paths = {"coordinates": places, "names": names, "bends": files_of.bends}
         self.leave_parent()
-        forks.follow(self)
+        forks.FOLLOWED.add(self)
 
     def leave_parent(self) -> None:
         """Resets to a free lock, at first and in each forked process."""

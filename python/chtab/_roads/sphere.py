@@ -1,5 +1,4 @@
-"""Lengths on the earth, taken as a sphere with a radius of 6,371,008.8 metres, as in the converter
-of maps."""
+"""Lengths on the earth as a sphere with a radius of 6,371,008.8 metres, as in the converter."""
 from __future__ import annotations
 
 import math
