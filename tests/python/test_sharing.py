@@ -1,6 +1,6 @@
 """Tests that a network may be shared: by threads, each with a handle of its own, by processes of each way to start them, and by pickle; that what breaks
-a question off leaves no answer for the next one; that what is closed, forked or dropped while others ask harms none of them; and that the files of arcs
-are written once, when they are needed.
+a question off leaves no answer for the next one; that what is closed, forked or dropped while others ask harms none of them; that the files of arcs are
+written once, when they are needed; and that threads may share what the service keeps.
 
 Answers are compared with scipy's own search.
 """
@@ -18,6 +18,7 @@ import signal
 import subprocess
 import threading
 import time
+import typing
 
 import pytest
 
@@ -35,6 +36,7 @@ import chtab
 from chtab import files
 from chtab._engine import library
 from chtab._files import node_labels
+from chtab_server.osrm.keeping import Keeping, column_of
 
 # Answers of each process, in parts of so many tables; and how many questions are broken off, and how many are answered, at least.
 PARTS, PART, ENOUGH = 10, 50, 60
@@ -417,3 +419,46 @@ def test_what_is_dropped_is_freed():
         assert growth(work, 60) < MOST_GROWTH, work.__name__
     with of_country() as network:
         assert growth(in_thread, 300) < MOST_GROWTH and len(network._engine.handles) == 1
+
+
+class Texts(typing.NamedTuple):
+    """A column of what is kept."""
+
+    texts: numpy.ndarray
+
+
+class Asked:
+    """A lock that counts how often it is asked for."""
+
+    def __init__(self):
+        self.lock, self.count = threading.Lock(), 0
+
+    def __enter__(self):
+        self.count += 1
+        self.lock.acquire()
+
+    def __exit__(self, *_):
+        self.lock.release()
+
+
+def test_threads_share_what_is_kept():
+    """Where two threads ask for what is not kept yet, each gets its own, then and later."""
+    keeping, making, others = Keeping(10, 100, Texts(column_of([]))), threading.Event(), []
+    keeping.lock = Asked()
+
+    def found(place, make):
+        columns, [which] = keeping.found(numpy.array([place]), None, lambda some: Texts(column_of([make()])))
+        return columns.texts[which]
+
+    def first():
+        making.set()
+        # The other thread waits for this one, or doesn't and has its text.
+        until(lambda: keeping.lock.count == 2 or others and others[0].done())
+        return "of 3"
+
+    with concurrent.futures.ThreadPoolExecutor(2) as threads:
+        asking = threads.submit(found, 3, first)
+        assert making.wait(PATIENCE)
+        others.append(threads.submit(found, 4, lambda: "of 4"))
+        texts = [asking.result(PATIENCE), others[0].result(PATIENCE), found(3, lambda: "anew"), found(4, lambda: "anew")]
+        assert texts == ["of 3", "of 4"] * 2, texts
