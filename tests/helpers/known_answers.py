@@ -11,7 +11,7 @@ from typing import NamedTuple
 
 from helpers.asking_osrm import TENTH, check_annotation, check_leg, distance_to, on_sphere
 from helpers.waiting import PATIENCE
-from oracles.driving import Driving, Spot
+from oracles.driving import NEAR, Driving, Spot
 from oracles.reading import graph_of
 from oracles.telling import metres
 
@@ -169,11 +169,26 @@ class Right:
         assert abs(sum(parts["duration"]) - leg["duration"]) < 1e-6
         assert abs(sum(parts["distance"]) - leg["distance"]) < TENTH * (len(nodes) + 1)
 
-    def line(self, line, length, ends):
-        """A line is as long as its route, leads from one place to another, and turns at nodes that arcs join."""
-        known, off = self.requests, 1 + 0.02 * len(line)
+    def line(self, line, length, stops, seconds):
+        """A line is as long as its route, and leads from place to place along arcs that take so many seconds."""
+        spots, off = [self.requests.spots[place] for place in stops], 1 + 0.02 * len(line)
         assert abs(sum(itertools.starmap(metres, zip(line, line[1:]))) - length) < off, (length, line)
-        assert all(on_sphere(end, known.at(known.spots[place])) < 1.3 for end, place in zip((line[0], line[-1]), ends)), line
+        at = [[place for place, point in enumerate(line) if on_sphere(point, self.requests.at(spot)) < NEAR] for spot in spots]
+        found = []
+        for cuts in itertools.product([0], *at[1:-1], [len(line) - 1]):
+            parts = [line[first:last + 1] for first, last in zip(cuts, cuts[1:]) if first <= last]
+            weights = [self.driving.along(*leg) for leg in zip(spots, parts, spots[1:])] if len(parts) == len(spots) - 1 else [None]
+            found += [] if None in weights else [sum(weights)]
+        assert at[0][:1] == [0] and at[-1][-1:] == [len(line) - 1] and round(1000 * seconds) in found, (seconds, found, line)
+
+    def steps(self, leg):
+        """Each step of a leg takes what the segments of its line take."""
+        parts, first = leg["annotation"], 0
+        for step in leg["steps"][:-1]:
+            last = first + len(step["geometry"]["coordinates"]) - 1
+            assert abs(sum(parts["duration"][first:last]) - step["duration"]) < 1e-6 and step["weight"] == step["duration"], step
+            assert abs(sum(parts["distance"][first:last]) - step["distance"]) < TENTH * (1 + last - first), step
+            first = last
 
     def route(self, request, value):
         import polyline
@@ -188,7 +203,7 @@ class Right:
             assert abs(route["distance"] - sum(leg["distance"] for leg in route["legs"])) < TENTH * (1 + len(pairs))
             if "annotations" in request.target:
                 line = route["geometry"]["coordinates"]
-                self.line(line, route["distance"], (which[0], which[-1]))
+                self.line(line, route["distance"], which, route["duration"])
                 assert len(route["legs"]) == len(pairs) and list(map(self.segments, route["legs"]))
         if kind == "straight":
             assert first["duration"] >= sum(self.best(*pair).weight for pair in pairs) / 1000 - 1e-6
@@ -199,6 +214,7 @@ class Right:
             lines = []
             for leg in first["legs"]:
                 check_leg(leg)
+                self.steps(leg)
                 parts = [step["geometry"]["coordinates"] for step in leg["steps"]]
                 lines.append([parts[0][0], *(place for part in parts[:-1] for place in part[1:])])
                 check_annotation(leg, [place[::-1] for place in lines[-1]])
@@ -207,7 +223,9 @@ class Right:
             digits = 6 if kind == "line" else 5
             line = [(x, y) for y, x in polyline.decode(first["geometry"], digits)]
             if kind == "line":
-                self.line(line, first["distance"], (which[0], which[-1]))
+                self.line(line, first["distance"], which, first["duration"])
+            known = [*self.driving.places.values(), *(waypoint["location"] for waypoint in value["waypoints"])]
+            assert all(min(metres(point, place) for place in known) < NEAR for point in line), line
             assert metres(line[0], value["waypoints"][0]["location"]) < 2 and metres(line[-1], value["waypoints"][-1]["location"]) < 2
         for other in others:
             assert first["duration"] < other["duration"] <= 1.25 * first["duration"] and other["geometry"] != first["geometry"]
@@ -239,11 +257,14 @@ class Right:
         for place, waypoint in zip(which, value["waypoints"], strict=True):
             self.waypoint(waypoint, place)
         order = sorted(range(len(which)), key=lambda place: value["waypoints"][place]["waypoint_index"])
-        tour = [which[place] for place in [*order, order[0]]]
+        tour, joined = [which[place] for place in [*order, order[0]]], []
         for leg, pair in zip(trip["legs"], zip(tour, tour[1:]), strict=True):
             self.leg(leg, *pair)
             check_leg(leg)
-        self.line(trip["geometry"]["coordinates"], trip["distance"], (tour[0], tour[0]))
+            line = [leg["steps"][0]["geometry"]["coordinates"][0], *(place for step in leg["steps"][:-1] for place in step["geometry"]["coordinates"][1:])]
+            self.line(line, leg["distance"], pair, leg["duration"])
+            joined += line[bool(joined):]
+        assert joined == trip["geometry"]["coordinates"]
 
         def weight(tour):
             return sum(self.best(*pair).weight for pair in zip(tour, tour[1:]))
@@ -266,7 +287,7 @@ class Right:
     def api_route(self, which, value):
         told = value["properties"]
         self.cell(told["weight"] / 1000, told["metres"], *which)
-        self.line(value["geometry"]["coordinates"], told["metres"], which)
+        self.line(value["geometry"]["coordinates"], told["metres"], which, told["weight"] / 1000)
 
     def api_table(self, which, value):
         assert value["weights"] == [[self.best(one, other).weight for other in which[2:]] for one in which[:2]], value

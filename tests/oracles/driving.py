@@ -4,10 +4,14 @@ of the package: it shares no code with it.
 A road is the straight line between the two nodes of an arc.
 """
 import heapq
+import math
 from collections import defaultdict
 from typing import NamedTuple
 
 from oracles.telling import metres
+
+# A spot less than a metre from an end of its road is at that end; and places are rounded to millionths of a degree. Both in metres.
+NEAR, SAME = 1.3, 0.2
 
 
 class Spot(NamedTuple):
@@ -95,6 +99,32 @@ class Driving:
                 length = abs(off) * self.length(low, high)
                 found = better(found, Trip(round(abs(off) * weight), length, length))
         return found
+
+    def along(self, start, line, end):
+        """What the lightest trip along a line of places weighs, from a spot at its start over nodes at the others to a spot at its end; None if there
+        is none."""
+        last, best, queue = len(line) - 1, {}, []
+
+        def reach(node, weight, place):
+            for at in place, place + 1:
+                if at <= last and self.is_at(node, line[at], at in (0, last)) and weight < best.get((node, at), math.inf):
+                    best[node, at] = weight
+                    heapq.heappush(queue, (weight, node, at))
+
+        for node, weight, _ in self.ends(start, True):
+            reach(node, weight, 0)
+        while queue:
+            weight, node, at = heapq.heappop(queue)
+            for head, more, _ in self.ahead[node] if weight == best[node, at] else ():
+                reach(head, weight + more, at)
+        ends = [(node, more) for node, more, _ in self.ends(end, False)]
+        found = [weight + more for (node, at), weight in best.items() for other, more in ends if node == other and at >= last - 1]
+        direct = self.trip(start, {}, end) if last <= 1 else None
+        return min([*found, *([direct.weight] if direct else [])], default=None)
+
+    def is_at(self, node, place, is_spot):
+        """Whether a node is at a place, which may also be that of a spot less than a metre away."""
+        return metres(self.places[node], place) < (NEAR if is_spot else SAME)
 
     def table(self, spots):
         """The best trips from each spot to each."""
