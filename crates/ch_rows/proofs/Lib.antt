@@ -1,0 +1,22 @@
+-- The lemmas on rows: search spaces and the buckets that hold them, sums and cells, gathered rows, and near rows.
+pub mod CellRows
+pub mod Deals
+pub mod Distances
+pub mod Entries
+pub mod Facing
+pub mod Filled
+pub mod Firsts
+pub mod Gathering
+pub mod GraphRows
+pub mod Held
+pub mod HeldSpaces
+pub mod LeastRows
+pub mod NearRows
+pub mod OneFirst
+pub mod Orders
+pub mod Owing
+pub mod Pigeons
+pub mod Summed
+pub mod Swept
+pub mod Tables
+pub mod Takings
