@@ -11,7 +11,7 @@ use Rattle.ch_rows.proofs.Orders.{apart_in_order, nearer_in_order, place_once}
 use Rattle.ch_rows.proofs.Firsts.{first_of}
 
 module _ (n : ℕ) (lists rows : List (List (ℕ × ℕ))) (hold : HoldLists n (λ rank. rank) lists rows)
-    (apart : (rank : ℕ) → rank < n → AllPairs (λ a b. a.0 ≢ b.0) (slice_index_or rows rank [])) (count : Option ℕ)
+    (order : (rank : ℕ) → AllPairs (λ a b. a.0 < b.0) (slice_index_or rows rank [])) (count : Option ℕ)
     (firsts : List (List (ℕ × ℕ))) (cut : AreSortedAndCut count rows firsts) where
   -- the entries of a rank, each as a weight and a place
   abbrev at_rank : ℕ → List (ℕ × ℕ)
@@ -33,15 +33,16 @@ module _ (n : ℕ) (lists rows : List (List (ℕ × ℕ))) (hold : HoldLists n (
       let row = at_rank rank in
       let s = cut.each rank (omega arith) in
       let p = s.permutation in
-      let different = pairs_map turned (λ a b. a.1 ≢ b.1) (slice_index_or rows rank []) (apart rank lt) in
-      let order = nearer_in_order row s.sorted different p s.order in
+      let different = pairs_map turned (λ a b. a.1 ≢ b.1) (slice_index_or rows rank [])
+      (λ i j d low within same. let less = order rank i j d low within in omega arith) in
+      let nearer = nearer_in_order row s.sorted different p s.order in
       let different' = apart_in_order row s.sorted different p in
       let listed : (e : ℕ × ℕ) → Contains s.sorted e → IsEntryAt lists rank e = λ e c.
       in_row rank e (Contains-permutation s.sorted row e (IsPermutation-sym row s.sorted p) c) in
       let kept : (e : ℕ × ℕ) → IsEntryAt lists rank e → Contains s.sorted e = λ e at.
       Contains-permutation row s.sorted e p (of_row rank e at) in
       subst (AreFirst count (IsEntryAt lists rank)) (sym s.cut)
-      (first_of s.sorted order count (IsEntryAt lists rank) different'
+      (first_of s.sorted nearer count (IsEntryAt lists rank) different'
       (λ x y j a b. place_once s.sorted different' x y j (kept (x, j) a) (kept (y, j) b))
       (λ e c. (e.0, listed e c, omega arith))
       (λ e at. inl (e.0, omega arith, kept e at)))

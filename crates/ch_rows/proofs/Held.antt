@@ -1,7 +1,7 @@
 -- Lists of ranks and weights, and the buckets that hold them.
 use Rattle.std.proofs.Common.{◌≡◌, ℕ, zero, suc, ◌+◌, ◌<◌, List, [], ◌∷◌, ◌++◌, length, map, take, drop, get_or, Vec, Contains, refl, sym}
 use Rattle.std.proofs.Common.{◌∙◌, ap, subst, arith, inl, inr}
-use Rattle.std.specs.Prelude.{◌==◌, ◌≢◌, All, AllPairs, slice_index_or}
+use Rattle.std.specs.Prelude.{◌==◌, All, AllPairs, slice_index_or}
 use Rattle.std.specs.List.{filter}
 use Rattle.std.specs.declared.alloc.Global.{Global}
 use Rattle.std.proofs.lemmas.Bool.{cases_lt, eqb-true}
@@ -48,17 +48,20 @@ hold_lists n lists below buckets made = record {
       (contains_filter (λ e. e.0 == r) (pairs_of lists) (r, (j, x)) pair (let e : r ≡ r = refl in grind (arith, nat_tests))));
 }
 
--- if no rank occurs twice in a list, no place occurs twice in a row of the pairs
-pub rows_apart : (n : ℕ) (lists : List (List (ℕ × ℕ))) → All AreRanksApart lists → (rows : List (List (ℕ × ℕ))) →
-    AreRowsOf n (pairs_of lists) rows → (rank : ℕ) → rank < n → AllPairs (λ a b. a.0 ≢ b.0) (slice_index_or rows rank [])
-rows_apart n lists apart rows made rank low = subst (AllPairs (λ a b. a.0 ≢ b.0)) (sym (made.each rank low))
-    (pairs_map (λ (e : ℕ × (ℕ × ℕ)). e.1) (λ a b. a.0 ≢ b.0) (filter (λ e. e.0 == rank) (pairs_of lists)) (λ i j d lt within same.
-    let passes = filter_passes (λ e. e.0 == rank) (pairs_of lists) in
-    let first = eqb-true _ _ (passes i d (omega arith)) in
-    let second = eqb-true _ _ (passes j d within) in
-    let less = AllPairs-filter (λ a b. a.0 ≡ b.0 → a.1.0 < b.1.0) (λ e. e.0 == rank) (pairs_of lists) (pairs_rise 0 lists apart)
-    i j d lt within (first ∙ sym second) in
-    omega arith))
+-- if no rank occurs twice in a list, a row of the pairs is in order of place
+pub rows_rise : (n : ℕ) (lists : List (List (ℕ × ℕ))) → All AreRanksApart lists → (rows : List (List (ℕ × ℕ))) →
+    AreRowsOf n (pairs_of lists) rows → (rank : ℕ) → AllPairs (λ a b. a.0 < b.0) (slice_index_or rows rank [])
+rows_rise n lists apart rows made rank = elim (cases_lt rank n) [
+  | inr past ↦ (let size = made.count in subst (AllPairs (λ a b. a.0 < b.0)) (sym (get_or_past rows rank [] (omega arith)))
+      (λ i j d lt within. absurd (omega arith)))
+  | inl low ↦ subst (AllPairs (λ a b. a.0 < b.0)) (sym (made.each rank low))
+      (pairs_map (λ (e : ℕ × (ℕ × ℕ)). e.1) (λ a b. a.0 < b.0) (filter (λ e. e.0 == rank) (pairs_of lists)) (λ i j d lt within.
+      let passes = filter_passes (λ e. e.0 == rank) (pairs_of lists) in
+      let first = eqb-true _ _ (passes i d (omega arith)) in
+      let second = eqb-true _ _ (passes j d within) in
+      AllPairs-filter (λ a b. a.0 ≡ b.0 → a.1.0 < b.1.0) (λ e. e.0 == rank) (pairs_of lists) (pairs_rise 0 lists apart)
+      i j d lt within (first ∙ sym second)))
+]
 
 -- buckets that hold lists with items in place of ranks hold the lists by items
 pub held_dealt : (n : ℕ) (item : ℕ → ℕ) (lists buckets : List (List (ℕ × ℕ))) →

@@ -47,32 +47,43 @@ module _ {H : LevelsAndLegs} {side : Side} {limit : Option ℕ} {nodes : List �
   pub space_at : (j : ℕ) → j < length nodes → IsRankedSpace H side limit (slice_index nodes j) (slice_index_or hold.spaces j [])
   space_at j lt = zipped_at (IsRankedSpace H side limit) nodes hold.spaces j 0 [] hold.each lt
 
--- the spaces that were found, as vectors
-module _ (H : LevelsAndLegs) (side : Side) (limit : Option ℕ) (nodes : List ℕ) (spaces : List (Vec (ℕ × ℕ) Global))
-    (each : AllZip (λ node (space : Vec (ℕ × ℕ) Global). IsRankedSpace H side limit node space.items) nodes spaces) where
-  found_count : length spaces ≡ length nodes
-  found_count = AllZip-long (λ node (space : Vec (ℕ × ℕ) Global). IsRankedSpace H side limit node space.items) nodes spaces each
+-- lists of ranks and weights that were found for nodes, as vectors
+module _ (R : ℕ → List (ℕ × ℕ) → Type 0) (nodes : List ℕ) (lists : List (Vec (ℕ × ℕ) Global))
+    (each : AllZip (λ node (list : Vec (ℕ × ℕ) Global). R node list.items) nodes lists) where
+  found_count : length lists ≡ length nodes
+  found_count = AllZip-long (λ node (list : Vec (ℕ × ℕ) Global). R node list.items) nodes lists each
 
-  found_at : (k : ℕ) (d : Vec (ℕ × ℕ) Global) → k < length spaces →
-      IsRankedSpace H side limit (get_or nodes k 0) (get_or spaces k d).items
+  found_at : (k : ℕ) (d : Vec (ℕ × ℕ) Global) → k < length lists → R (get_or nodes k 0) (get_or lists k d).items
   found_at k d lt =
       let size = found_count in
-      zipped_at (λ node (list : Vec (ℕ × ℕ) Global). IsRankedSpace H side limit node list.items) nodes spaces k 0 d each (omega arith)
+      zipped_at (λ node (list : Vec (ℕ × ℕ) Global). R node list.items) nodes lists k 0 d each (omega arith)
 
   -- there are at most as many lists as a list of nodes may be long
-  pub found_few : length nodes ≤ MOST_LISTED → length spaces ≤ MOST_LISTED
+  pub found_few : length nodes ≤ MOST_LISTED → length lists ≤ MOST_LISTED
   found_few few = let size = found_count in omega (arith, size, few)
 
-  -- the ranks in the lists are below the number of nodes, and they are different
-  pub found_within : IsLevelled H → (n : ℕ) → n ≡ nodes_of H →
-      All (λ (space : Vec (ℕ × ℕ) Global). All (λ (entry : ℕ × ℕ). entry.0 < n) space.items) spaces
-  found_within levelled n is k d lt k' d' lt' =
-      let list = (get_or spaces k d).items in
+  -- the ranks in the lists are below a number
+  pub found_below : (n : ℕ) → ((k : ℕ) → k < length nodes → (list : List (ℕ × ℕ)) → R (get_or nodes k 0) list → (rank x : ℕ) →
+      Contains list (rank, x) → rank < n) → All (λ (list : Vec (ℕ × ℕ) Global). All (λ (entry : ℕ × ℕ). entry.0 < n) list.items) lists
+  found_below n low k d lt k' d' lt' =
+      let size = found_count in
+      let list = (get_or lists k d).items in
       let entry = get_or list k' d' in
-      subst (λ m. entry.0 < m) (sym is) (rank_within (found_at k d lt) levelled entry.0 entry.1 (Contains-get_or list k' d' lt'))
+      low k (omega arith) list (found_at k d lt) entry.0 entry.1 (Contains-get_or list k' d' lt')
 
-  pub found_apart : All (λ (space : Vec (ℕ × ℕ) Global). AreRanksApart space.items) spaces
-  found_apart k d lt = (found_at k d lt).distinct
+  -- they are different
+  pub found_apart : ((s : ℕ) (list : List (ℕ × ℕ)) → R s list → AreRanksApart list) →
+      All (λ (list : Vec (ℕ × ℕ) Global). AreRanksApart list.items) lists
+  found_apart apart k d lt = apart (get_or nodes k 0) (get_or lists k d).items (found_at k d lt)
+
+-- the spaces that were found
+module _ (H : LevelsAndLegs) (side : Side) (limit : Option ℕ) (nodes : List ℕ) (spaces : List (Vec (ℕ × ℕ) Global))
+    (each : AllZip (λ node (space : Vec (ℕ × ℕ) Global). IsRankedSpace H side limit node space.items) nodes spaces) where
+  -- the ranks are below the number of nodes
+  pub spaces_within : IsLevelled H → (n : ℕ) → n ≡ nodes_of H →
+      All (λ (space : Vec (ℕ × ℕ) Global). All (λ (entry : ℕ × ℕ). entry.0 < n) space.items) spaces
+  spaces_within levelled n is = found_below (IsRankedSpace H side limit) nodes spaces each n
+      (λ k lt list space rank x h. subst (λ m. rank < m) (sym is) (rank_within space levelled rank x h))
 
   -- what holds the lists holds the search spaces
   pub spaces_held : IsKeptForSome H → length nodes ≤ MOST_LISTED → (Held : ℕ → List (List (ℕ × ℕ)) → Type 0) (n : ℕ) → n ≡ nodes_of H →

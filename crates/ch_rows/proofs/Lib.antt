@@ -2,7 +2,6 @@
 pub mod CellRows
 pub mod Deals
 pub mod Distances
-pub mod Entries
 pub mod Facing
 pub mod Filled
 pub mod Firsts
@@ -16,6 +15,7 @@ pub mod OneFirst
 pub mod Orders
 pub mod Owing
 pub mod Pigeons
+pub mod Reaches
 pub mod Summed
 pub mod Swept
 pub mod Tables

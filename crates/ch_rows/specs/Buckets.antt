@@ -27,6 +27,12 @@ pub record AreBuckets (rows : List (List Leg)) (limit : Option ℕ) (nodes : Lis
   pub count : length buckets ≡ length rows
   pub each : (v : ℕ) → IsBucket rows limit nodes v (slice_index_or buckets v [])
 
+-- the nodes that s reaches upward at a weight within the limit, each once, with the least weights
+pub record IsReach (rows : List (List Leg)) (limit : Option ℕ) (s : ℕ) (list : List (ℕ × ℕ)) : Type 0 where
+  pub apart : AllPairs (λ a b. a.0 ≢ b.0) list
+  pub sound : (v x : ℕ) → Contains list (v, x) → (c : Cost) × IsLeastUpwardPath rows s v c × (c.weight ≡ x) × IsWithin limit x
+  pub whole : (v : ℕ) (c : Cost) → IsLeastUpwardPath rows s v c → IsWithin limit c.weight → Contains list (v, c.weight)
+
 -- no rank occurs twice
 abbrev pub AreRanksApart : List (ℕ × ℕ) → Type 0
 AreRanksApart list = AllPairs (λ a b. a.0 ≢ b.0) list

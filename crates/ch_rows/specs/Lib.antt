@@ -1,9 +1,8 @@
--- The definitions of rows: buckets and their entries, tables, the sums that nodes owe to cells, and near rows.
+-- The definitions of rows: buckets, tables, the sums that nodes owe to cells, and near rows.
 pub mod Buckets
 pub mod Cells
 pub mod Dealing
 pub mod Direction
-pub mod Entries
 pub mod First
 pub mod Kept
 pub mod LeastSums

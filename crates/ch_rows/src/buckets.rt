@@ -3,13 +3,12 @@ ghost use Rattle.std.specs.Prelude.{◌≡◌, ◌++◌, ◌<◌, ◌≤◌, [],
 ghost use Rattle.ch_graph.specs.declared.limits.TheConstants.{MOST_LISTED};
 ghost use Rattle.ch_hierarchy.specs.Hierarchy.{nodes_of};
 ghost use Rattle.ch_hierarchy.specs.Side.{rows_of};
-ghost use Rattle.ch_rows.specs.Buckets.{AreBuckets, HoldLists};
+ghost use Rattle.ch_rows.specs.Buckets.{AreBuckets, HoldLists, IsReach};
 ghost use Rattle.ch_rows.specs.Dealing.{dealt, item_of};
-ghost use Rattle.ch_rows.specs.Entries.{AreEntries, entry_at};
 
 use crate::dealing::Dealing;
 use crate::spaces::gathered;
-use ch_graph::{Cost, Rows};
+use ch_graph::Rows;
 use ch_hierarchy::{Hierarchy, Side};
 use ch_query::{Scratch, Start, spread};
 use std::alloc::{AllocError, Global};
@@ -82,8 +81,17 @@ impl Buckets {
         requires count { length nodes.now ≤ MOST_LISTED }
         ensures { IfOk result (AreBuckets (rows_of hierarchy.now side) within nodes.now) }
     {
-        let entries = entries(alloc, hierarchy, nodes, side, within)?;
-        let rows = Rows::build(alloc, hierarchy.nodes(), &entries)?;
+        let mut scratch = Scratch::new(alloc, hierarchy.nodes())?;
+        let mut lists = Vec::new(alloc);
+        for node in nodes {
+            let start = Start {
+                source: *node,
+                side,
+                within,
+            };
+            lists.push(reach(alloc, hierarchy, &mut scratch, start)?)?;
+        }
+        let rows = gathered(alloc, hierarchy.nodes(), lists)?;
         Ok(Buckets { rows })
     }
 
@@ -115,47 +123,24 @@ impl Buckets {
     }
 }
 
-/// The node or the item that a bucket belongs to, and an entry of that bucket.
-type Entry = (u32, (u32, u64));
-
-/// Returns the entries of all buckets, place after place.
-fn entries(
+/// Returns the nodes that this start reaches, each with the least weight of such a path.
+fn reach(
     alloc: Global,
     hierarchy: &Hierarchy,
-    nodes: &[u32],
-    side: Side,
-    within: Option<u64>,
-) -> Result<Vec<Entry>, AllocError>
-    requires nodes { All (λ x. x < nodes_of hierarchy.now) nodes.now }
-    requires count { length nodes.now ≤ MOST_LISTED }
-    ensures { IfOk result (λ list. AreEntries (rows_of hierarchy.now side) within nodes.now (length nodes.now) list.items) }
+    scratch: &mut Scratch,
+    start: Start,
+) -> Result<Vec<(u32, u64)>, AllocError>
+    requires scratch { scratch.old ≡ nodes_of hierarchy.now }
+    requires source { start.source < nodes_of hierarchy.now }
+    ensures reach { IfOk result (λ list. IsReach (rows_of hierarchy.now start.side) start.within start.source list.items) }
+    ensures scratch { scratch.new ≡ scratch.old }
 {
-    let mut scratch = Scratch::new(alloc, hierarchy.nodes())?;
-    let mut entries = Vec::new(alloc);
-    for (place, node) in nodes.iter().enumerate() {
-        let start = Start {
-            source: *node,
-            side,
-            within,
-        };
-        let reached = spread(alloc, hierarchy, &mut scratch, start)?;
-        push_entries(&mut entries, place as u32, &reached)?;
+    let reached = spread(alloc, hierarchy, scratch, start)?;
+    let mut weights = Vec::new(alloc);
+    for (node, cost) in &reached {
+        weights.push((*node, cost.weight))?;
     }
-    Ok(entries)
-}
-
-/// Adds an entry for the node at this place to the bucket of each node that it reaches.
-fn push_entries(
-    entries: &mut Vec<Entry>,
-    place: u32,
-    reached: &[(u32, Cost)],
-) -> Result<(), AllocError>
-    ensures { OnOk result (entries.new.items ≡ entries.old.items ++ map (entry_at place) reached.now) }
-{
-    for (node, cost) in reached {
-        entries.push((*node, (place, cost.weight)))?;
-    }
-    Ok(())
+    Ok(weights)
 }
 
 /// Puts the item of each rank in its place.

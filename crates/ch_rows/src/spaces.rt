@@ -1,5 +1,5 @@
 //! Searches from targets, and the rows of what they find.
-ghost use Rattle.std.specs.Prelude.{◌≢◌, ◌<◌, ◌≤◌, ℕ, [], length, map, slice_index_or, All, AllPairs, IfOk};
+ghost use Rattle.std.specs.Prelude.{◌<◌, ◌≤◌, ℕ, [], length, map, slice_index_or, All, AllPairs, IfOk};
 ghost use Rattle.std.specs.List.{AllZip};
 ghost use Rattle.ch_graph.specs.declared.limits.TheConstants.{MOST_LISTED};
 ghost use Rattle.ch_hierarchy.specs.Hierarchy.{nodes_of};
@@ -53,7 +53,7 @@ pub(crate) fn spaces_alone(
 }
 
 /// Puts lists of ranks and weights, one list for each place, into a row for each rank: the places and weights at
-/// that rank. It frees the lists.
+/// that rank, in order of place. It frees the lists.
 pub(crate) fn gathered(
     alloc: Global,
     nodes: u32,
@@ -62,7 +62,7 @@ pub(crate) fn gathered(
     requires listed { length lists.items ≤ MOST_LISTED }
     requires ranks { All (λ list. All (λ entry. entry.0 < nodes) list.items) lists.items }
     ensures held { IfOk result (HoldLists nodes (λ rank. rank) (map (λ list. list.items) lists.items)) }
-    ensures apart { All (λ list. AreRanksApart list.items) lists.items → IfOk result (λ rows. (rank : ℕ) → rank < nodes → AllPairs (λ a b. a.0 ≢ b.0) (slice_index_or rows rank [])) }
+    ensures order { All (λ list. AreRanksApart list.items) lists.items → IfOk result (λ rows. (rank : ℕ) → AllPairs (λ a b. a.0 < b.0) (slice_index_or rows rank [])) }
 {
     gather(alloc, nodes, &lists)
 }

@@ -14,4 +14,4 @@ returns c =
     let rows = c.in_ok-rows.rows in
     let held = c.in_ok-rows.ensures in
     IfOk-weaker c.first_of_each.result (AreSortedAndCut count rows) (HoldFirst n count lists)
-    (hold_first n lists rows held.held (held.apart c.requires.apart) count) c.first_of_each.ensures
+    (hold_first n lists rows held.held (held.order c.requires.apart) count) c.first_of_each.ensures

@@ -1,19 +1,20 @@
 -- The search spaces of the nodes, dealt over the items, are in the buckets.
 use Rattle.std.proofs.lemmas.Result.{IfOk-weaker}
+use Rattle.ch_query.specs.SearchSpace.{IsRankedSpace}
 use Rattle.ch_rows.specs.Buckets.{HoldLists, HoldSearchSpaces}
 use Rattle.ch_rows.specs.Dealing.{item_of}
-use Rattle.ch_rows.proofs.HeldSpaces.{found_few, found_within, spaces_held}
+use Rattle.ch_rows.proofs.HeldSpaces.{found_few, spaces_held, spaces_within}
 use Rattle.ch_rows.proofs.owed.search_side.Goals as goal
 
 pub of_lists-requires-clause-count : goal.of_lists-requires-clause-count
 of_lists-requires-clause-count g c =
     let a = c.args in
-    found_few a.hierarchy.now a.side a.within a.nodes.now c.in_ok-spaces.spaces.items c.in_ok-spaces.ensures.spaces c.requires.count
+    found_few (IsRankedSpace a.hierarchy.now a.side a.within) a.nodes.now c.in_ok-spaces.spaces.items c.in_ok-spaces.ensures.spaces c.requires.count
 
 pub of_lists-requires-clause-ranks : goal.of_lists-requires-clause-ranks
 of_lists-requires-clause-ranks g c =
     let a = c.args in
-    found_within a.hierarchy.now a.side a.within a.nodes.now c.in_ok-spaces.spaces.items c.in_ok-spaces.ensures.spaces
+    spaces_within a.hierarchy.now a.side a.within a.nodes.now c.in_ok-spaces.spaces.items c.in_ok-spaces.ensures.spaces
     c.requires.kept.2.levelled a.dealing.now.nodes c.requires.dealing
 
 pub returns-clause-buckets : goal.returns-clause-buckets

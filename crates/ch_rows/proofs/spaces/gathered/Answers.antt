@@ -1,12 +1,12 @@
--- The rows of the pairs of lists hold the lists, and no list has two pairs in a row.
+-- The rows of the pairs of lists hold the lists, in order of place.
 use Rattle.std.proofs.Common.{ℕ, ◌<◌, ◌≤◌, ◌^◌, List, [], length, map, Vec, sym, subst, arith}
-use Rattle.std.specs.Prelude.{◌≢◌, All, AllPairs, slice_index_or}
+use Rattle.std.specs.Prelude.{All, AllPairs, slice_index_or}
 use Rattle.std.specs.declared.alloc.Global.{Global}
 use Rattle.std.proofs.lemmas.List.Elements.{All-map}
 use Rattle.std.proofs.lemmas.Result.{IfOk-weaker}
 use Rattle.ch_graph.specs.Rows.{AreRowsOf, pairs_of}
 use Rattle.ch_rows.specs.Buckets.{AreRanksApart, HoldLists}
-use Rattle.ch_rows.proofs.Held.{hold_lists, rows_apart}
+use Rattle.ch_rows.proofs.Held.{hold_lists, rows_rise}
 use Rattle.ch_rows.proofs.spaces.gathered.Goals as goal
 
 abbrev items : Vec (ℕ × ℕ) Global → List (ℕ × ℕ)
@@ -30,10 +30,10 @@ returns-clause-held c =
     (λ rows made. hold_lists n (map items vecs) below rows
     (subst (λ (l : List (Vec (ℕ × ℕ) Global)). AreRowsOf n (pairs_of (map items l)) rows) c.deref.ensures.value made)) c.gather.ensures
 
-pub returns-clause-apart : goal.returns-clause-apart
-returns-clause-apart c apart =
+pub returns-clause-order : goal.returns-clause-order
+returns-clause-order c apart =
     let n = c.args.nodes in
     let vecs = c.args.lists.items in
-    IfOk-weaker c.gather.result _ (λ rows. (rank : ℕ) → rank < n → AllPairs (λ a b. a.0 ≢ b.0) (slice_index_or rows rank []))
-    (λ rows made. rows_apart n (map items vecs) (All-map AreRanksApart items vecs apart) rows
+    IfOk-weaker c.gather.result _ (λ rows. (rank : ℕ) → AllPairs (λ a b. a.0 < b.0) (slice_index_or rows rank []))
+    (λ rows made. rows_rise n (map items vecs) (All-map AreRanksApart items vecs apart) rows
     (subst (λ (l : List (Vec (ℕ × ℕ) Global)). AreRowsOf n (pairs_of (map items l)) rows) c.deref.ensures.value made)) c.gather.ensures

@@ -1,27 +1,29 @@
 -- The search spaces of the targets have ranks of nodes, each once, and their buckets are those of the search.
 use Rattle.std.proofs.Common.{sym, subst}
 use Rattle.ch_hierarchy.specs.declared.side.Side.TheVariants.{Down}
+use Rattle.ch_query.specs.SearchSpace.{IsRankedSpace}
 use Rattle.ch_rows.specs.Buckets.{HoldFirst, HoldNearest}
 use Rattle.ch_rows.specs.Direction.{facing}
 use Rattle.ch_rows.proofs.Facing.{kept_facing}
-use Rattle.ch_rows.proofs.HeldSpaces.{found_apart, found_few, found_within, spaces_held}
+use Rattle.ch_rows.proofs.HeldSpaces.{found_apart, found_few, spaces_held, spaces_within}
 use Rattle.ch_rows.proofs.searched.Searched.of.Goals as goal
 
 pub buckets_of-requires-clause-listed : goal.buckets_of-requires-clause-listed
 buckets_of-requires-clause-listed c =
     let a = c.args in
-    found_few (facing a.direction a.hierarchy.now) Down a.within a.targets.now a.spaces.items c.requires.spaces c.requires.listed
+    found_few (IsRankedSpace (facing a.direction a.hierarchy.now) Down a.within) a.targets.now a.spaces.items c.requires.spaces c.requires.listed
 
 pub buckets_of-requires-clause-ranks : goal.buckets_of-requires-clause-ranks
 buckets_of-requires-clause-ranks c =
     let a = c.args in
-    found_within (facing a.direction a.hierarchy.now) Down a.within a.targets.now a.spaces.items c.requires.spaces
+    spaces_within (facing a.direction a.hierarchy.now) Down a.within a.targets.now a.spaces.items c.requires.spaces
     (kept_facing a.direction a.hierarchy.now c.requires.kept).2.levelled c.nodes.result c.nodes.ensures.nodes
 
 pub buckets_of-requires-clause-apart : goal.buckets_of-requires-clause-apart
 buckets_of-requires-clause-apart c =
     let a = c.args in
-    found_apart (facing a.direction a.hierarchy.now) Down a.within a.targets.now a.spaces.items c.requires.spaces
+    found_apart (IsRankedSpace (facing a.direction a.hierarchy.now) Down a.within) a.targets.now a.spaces.items c.requires.spaces
+    (λ s list space. space.distinct)
 
 pub returns-clause-searched : goal.returns-clause-searched
 returns-clause-searched c =
