@@ -1,11 +1,11 @@
 -- The cells of a row: the least sum of a place over the source's search space and the buckets is the distance.
-use Rattle.std.proofs.Common.{◌≡◌, ℕ, zero, suc, ◌<◌, ◌≤◌, ◌-◌, List, [], ◌∷◌, ◌++◌, length, map, get_or, Contains, Option, Some, None, refl, sym, ◌∙◌, ap}
-use Rattle.std.proofs.Common.{replicate, take, take_all, subst, arith, inl, inr}
+use Rattle.std.proofs.Common.{◌≡◌, ℕ, ◌<◌, ◌≤◌, ◌-◌, List, [], ◌∷◌, ◌++◌, length, map, get_or, Contains, Option, Some, None}
+use Rattle.std.proofs.Common.{refl, sym, ◌∙◌, ap, replicate, take, take_all, subst, arith, inl, inr}
 use Rattle.std.specs.Prelude.{◌≢◌, All, AllPairs, MatchOption, slice_index, slice_index_or}
-use Rattle.std.proofs.lemmas.Bool.{cases_lt, cases_order, le-leb, lt-leb}
+use Rattle.std.proofs.lemmas.Bool.{cases_lt, le-leb, lt-leb}
 use Rattle.std.proofs.lemmas.List.{get_or-map, get_or-replicate, length-map, length-replicate}
-use Rattle.std.proofs.lemmas.List.Elements.{All-contains, Contains-get_or}
-use Rattle.ch_graph.proofs.Lists.{contains_map_of, pairs_map}
+use Rattle.std.proofs.lemmas.List.Elements.{All-contains}
+use Rattle.ch_graph.proofs.Lists.{contains_cons, contains_map_of, pairs_cons, pairs_map}
 use Rattle.ch_hierarchy.specs.Hierarchy.{LevelsAndLegs, nodes_of}
 use Rattle.ch_hierarchy.specs.declared.side.Side.TheVariants.{Up, Down}
 use Rattle.ch_query.specs.Distance.{IsKeptForSome}
@@ -23,7 +23,7 @@ use Rattle.ch_rows.specs.Sums.{IsSumIn, IsSumOf}
 use Rattle.ch_rows.specs.Table.{IsRowBy}
 use Rattle.ch_rows.proofs.NearRows.{bucket_apart, down, entry_at, sum_shared}
 use Rattle.ch_rows.proofs.Orders.{nearer_never}
-use Rattle.ch_rows.proofs.Pigeons.{in_holes}
+use Rattle.ch_rows.proofs.Pigeons.{few_below}
 use Rattle.ch_rows.proofs.HeldSpaces.{rank_once, rank_within, shared_low, space_at, spaces_count}
 use Rattle.ch_rows.proofs.Tables.{all_zip_at}
 
@@ -106,21 +106,10 @@ module _ (H : LevelsAndLegs) (limit : Option ℕ) (targets : List ℕ) (buckets 
 
 -- different places below m, none of which is j, are fewer than m
 fewer : (places : List ℕ) (j m : ℕ) → AllPairs ◌≢◌ places → ((p : ℕ) → Contains places p → (p < m) × (p ≢ j)) → j < m → length places < m
-fewer places j m distinct others low = let most = in_holes (suc (length places)) m (λ i. get_or (j ∷ places) i 0) into one in omega arith
-  where
-    into : (i : ℕ) → i < suc (length places) → get_or (j ∷ places) i 0 < m
-    into zero lt = low
-    into (suc i) lt = (others (get_or places i 0) (Contains-get_or places i 0 (omega arith))).0
-
-    one : (i k : ℕ) → i < suc (length places) → k < suc (length places) → get_or (j ∷ places) i 0 ≡ get_or (j ∷ places) k 0 → i ≡ k
-    one zero zero lt lt' same = refl
-    one zero (suc k) lt lt' same = absurd ((others (get_or places k 0) (Contains-get_or places k 0 (omega arith))).1 (sym same))
-    one (suc i) zero lt lt' same = absurd ((others (get_or places i 0) (Contains-get_or places i 0 (omega arith))).1 same)
-    one (suc i) (suc k) lt lt' same = elim (cases_order i k) [
-      | inl is ↦ ap suc is
-      | inr (inl less) ↦ absurd (distinct i k 0 less (omega arith) same)
-      | inr (inr more) ↦ absurd (distinct k i 0 more (omega arith) (sym same))
-    ]
+fewer places j m distinct others low =
+    let most = few_below (j ∷ places) m (pairs_cons ◌≢◌ j places (λ p c same. (others p c).1 (sym same)) distinct) (λ p c.
+    elim (contains_cons j p places c) [ inl here ↦ subst (λ q. q < m) here low | inr there ↦ (others p there).0 ]) in
+    omega arith
 
 -- the offers of a source, where no bucket leaves a target out for their number
 module _ (H : LevelsAndLegs) (limit count : Option ℕ) (targets : List ℕ) (buckets : List (List (ℕ × ℕ)))
@@ -167,7 +156,8 @@ module _ (H : LevelsAndLegs) (limit count : Option ℕ) (targets : List ℕ) (bu
       elim (offered.sound j (omega arith)) [
         | inl same ↦ (
           None,
-          distance None (λ x sum within. let le = offered.whole j x sum in let is = none.each j low in let few = below x sum in omega arith),
+          distance None (λ x sum within.
+              let le = offered.whole j x sum in let is = none.each j low in let few = below x sum in omega arith),
           same ∙ none.each j low,
         )
         | inr sum ↦ (
@@ -193,6 +183,7 @@ module _ (H : LevelsAndLegs) (limit count : Option ℕ) (targets : List ℕ) (bu
 
       distance : (answer : Option ℕ) → MatchOption answer ((x : ℕ) → IsSumOf limit ups buckets (x, j) → IsWithin limit x → ⊥)
           (λ x. IsSumOf limit ups buckets (x, j) × IsWithin limit x
-          × ((y : ℕ) → IsSumOf limit ups buckets (y, j) → IsWithin limit y → x ≤ y)) → IsDistanceWithin H limit s (slice_index targets j) answer
+          × ((y : ℕ) → IsSumOf limit ups buckets (y, j) → IsWithin limit y → x ≤ y)) →
+          IsDistanceWithin H limit s (slice_index targets j) answer
       distance = least_is_distance H hold.kept limit s (slice_index targets j) ups (down H limit count targets buckets hold j) up to
           (λ x. IsSumOf limit ups buckets (x, j)) shared whole

@@ -79,7 +79,12 @@ module _ (R : ℕ → List (ℕ × ℕ) → Type 0) (nodes : List ℕ) (lists : 
 -- the spaces that were found
 module _ (H : LevelsAndLegs) (side : Side) (limit : Option ℕ) (nodes : List ℕ) (spaces : List (Vec (ℕ × ℕ) Global))
     (each : AllZip (λ node (space : Vec (ℕ × ℕ) Global). IsRankedSpace H side limit node space.items) nodes spaces) where
-  -- the ranks are below the number of nodes
+  pub spaces_few : length nodes ≤ MOST_LISTED → length spaces ≤ MOST_LISTED
+  spaces_few = found_few (IsRankedSpace H side limit) nodes spaces each
+
+  pub spaces_apart : All (λ (space : Vec (ℕ × ℕ) Global). AreRanksApart space.items) spaces
+  spaces_apart = found_apart (IsRankedSpace H side limit) nodes spaces each (λ s list space. space.distinct)
+
   pub spaces_within : IsLevelled H → (n : ℕ) → n ≡ nodes_of H →
       All (λ (space : Vec (ℕ × ℕ) Global). All (λ (entry : ℕ × ℕ). entry.0 < n) space.items) spaces
   spaces_within levelled n is = found_below (IsRankedSpace H side limit) nodes spaces each n

@@ -67,7 +67,8 @@ module _ (H : LevelsAndLegs) (limit count : Option ℕ) (targets : List ℕ) (bu
   module _ (bound : Option ℕ) (lesser : (x : ℕ) → IsWithin bound x → IsWithin limit x) (s : ℕ) (ups : List (ℕ × ℕ))
       (up : IsRankedSpace H Up bound s ups) where
     -- a sum is shared by the space of the source and the space of its place
-    pub sum_shared : (e : ℕ × ℕ) → IsSumOf bound ups buckets e → (e.1 < length targets) × IsSharedSum ups (down e.1) e.0 × IsWithin bound e.0
+    pub sum_shared : (e : ℕ × ℕ) → IsSumOf bound ups buckets e →
+        (e.1 < length targets) × IsSharedSum ups (down e.1) e.0 × IsWithin bound e.0
     sum_shared e h =
         let r = entry_at h.0 (h.3.0, e.1) (rank_held h.0 (h.3.0, e.1) h.3.1) h.3.1 in
         (r.0, (h.0, h.1, h.3.0, h.2, r.1, sym h.3.2), h.3.3)
@@ -90,7 +91,8 @@ module _ (H : LevelsAndLegs) (limit count : Option ℕ) (targets : List ℕ) (bu
     distance_reached : (e : ℕ × ℕ) → IsDistanceTo H bound targets s e →
         IsSumOf bound ups buckets e ⊎ IsOutdone count (IsSumOf bound ups buckets) e
     distance_reached e d =
-        let r = distance_shared H hold.kept bound limit lesser s (slice_index targets e.1) ups (down e.1) up (space_at hold e.1 d.0) e.0 d.1 in
+        let r = distance_shared H hold.kept bound limit lesser s (slice_index targets e.1) ups (down e.1) up (space_at hold e.1 d.0)
+        e.0 d.1 in
         let sum = r.0 in
         let rank = rank_within up hold.kept.2.levelled sum.0 sum.1 sum.3 in
         let low = subst (IsWithin bound) (sym sum.5) r.1 in

@@ -1,48 +1,31 @@
 -- There are at most as many pigeons as holes, if each pigeon has a hole and no two have the same.
-use Rattle.std.proofs.Common.{◌≡◌, ℕ, zero, suc, ◌<◌, ◌≤◌, ◌⊎◌, Bool, true, false, cond, refl, sym, ◌∙◌, subst, arith, inl, inr}
-use Rattle.std.specs.Prelude.{eqb}
-use Rattle.std.proofs.lemmas.Bool.{cases_lt, eqb-true, eqb-false}
+use Rattle.std.proofs.Common.{◌≡◌, ℕ, ◌<◌, ◌≤◌, ◌⊎◌, List, length, map, get_or, Contains, sym, ◌∙◌, subst, arith, inl, inr}
+use Rattle.std.specs.Prelude.{◌≢◌, AllPairs, eqb}
+use Rattle.std.specs.List.{range_with_len}
+use Rattle.std.proofs.lemmas.Bool.{cases_lt, eqb-true}
+use Rattle.std.proofs.lemmas.List.FromFn.{length-map-range_with_len, get_or-map-range_with_len}
+use Rattle.std.proofs.lemmas.Map.Keys.{IsDistinct-from_apart}
+use Rattle.std.proofs.lemmas.Map.Steps.{length-le_from_distinct_below}
+use Rattle.std.proofs.lemmas.Map.Views.{Contains-from_any}
+use Rattle.ch_graph.proofs.Numbers.{not_eqb}
 
--- f, with the value of `last` in place of the value m
-avoiding : (ℕ → ℕ) → ℕ → ℕ → ℕ → ℕ
-avoiding f m last i = cond (eqb (f i) m) (f last) (f i)
+-- different numbers below m are at most m
+pub few_below : (xs : List ℕ) (m : ℕ) → AllPairs ◌≢◌ xs → ((x : ℕ) → Contains xs x → x < m) → length xs ≤ m
+few_below xs m distinct low =
+    length-le_from_distinct_below xs m (IsDistinct-from_apart eqb xs (λ i j d less within. not_eqb _ _ (distinct i j d less within)))
+    (λ x found. low x (Contains-from_any eqb-true x xs found))
 
-abbrev Avoids : ℕ → ℕ → ℕ → ℕ → Type 0
-Avoids x m y r = ((x ≡ m) × (r ≡ y)) ⊎ ((x ≡ m → ⊥) × (r ≡ x))
-
-avoids_by : (x m y : ℕ) (t : Bool) → eqb x m ≡ t → Avoids x m y (cond t y x)
-avoids_by x m y true e = inl (eqb-true x m e, refl)
-avoids_by x m y false e = inr (eqb-false x m e, refl)
-
-avoids : (f : ℕ → ℕ) (m last i : ℕ) → Avoids (f i) m (f last) (avoiding f m last i)
-unfolding avoiding
-avoids f m last i = avoids_by (f i) m (f last) (eqb (f i) m) refl
-
--- n different numbers below m
+-- so are the values of n numbers
 pub in_holes : (n m : ℕ) (f : ℕ → ℕ) → ((i : ℕ) → i < n → f i < m) → ((i j : ℕ) → i < n → j < n → f i ≡ f j → i ≡ j) → n ≤ m
-in_holes zero m f into one = omega arith
-in_holes (suc n) zero f into one = absurd (let low = into n (omega arith) in omega arith)
-in_holes (suc n) (suc m) f into one =
-    let fewer = in_holes n m (avoiding f m n)
-    (λ i lt. less i lt (avoids f m n i))
-    (λ i j lt lt' e. apart i j lt lt' (avoids f m n i) (avoids f m n j) e) in
+in_holes n m f into one =
+    let xs = map f (range_with_len 0 n) in
+    let size = length-map-range_with_len f 0 n in
+    let at : (i d : ℕ) → i < n → get_or xs i d ≡ f i = λ i d lt. get_or-map-range_with_len f 0 n i i d lt (omega arith) in
+    let few = few_below xs m
+    (λ i j d less within same. let e = one i j (omega arith) (omega arith) (sym (at i d (omega arith)) ∙ same ∙ at j d (omega arith)) in
+    omega arith)
+    (λ x c. let lt : c.0 < n = (let inside = c.1 in omega arith) in subst (λ q. q < m) (sym (at c.0 x lt) ∙ c.2) (into c.0 lt)) in
     omega arith
-  where
-    less : (i : ℕ) → i < n → Avoids (f i) m (f n) (avoiding f m n i) → avoiding f m n i < m
-    less i lt (inl w) =
-        let a = into n (omega arith) in
-        let e = w.0 in
-        let r = w.1 in
-        let ne : f n ≡ m → ⊥ = λ q. let z = one i n (omega arith) (omega arith) (e ∙ sym q) in omega arith in
-        omega arith
-    less i lt (inr w) = let a = into i (omega arith) in let ne = w.0 in let r = w.1 in omega arith
-
-    apart : (i j : ℕ) → i < n → j < n → Avoids (f i) m (f n) (avoiding f m n i) → Avoids (f j) m (f n) (avoiding f m n j) →
-        avoiding f m n i ≡ avoiding f m n j → i ≡ j
-    apart i j lt lt' (inl v) (inl w) e = one i j (omega arith) (omega arith) (v.0 ∙ sym w.0)
-    apart i j lt lt' (inl v) (inr w) e = absurd (let z = one n j (omega arith) (omega arith) (sym v.1 ∙ e ∙ w.1) in omega arith)
-    apart i j lt lt' (inr v) (inl w) e = absurd (let z = one i n (omega arith) (omega arith) (sym v.1 ∙ e ∙ w.1) in omega arith)
-    apart i j lt lt' (inr v) (inr w) e = one i j (omega arith) (omega arith) (sym v.1 ∙ e ∙ w.1)
 
 -- n pigeons that have holes below m
 module _ (n m : ℕ) (Has : ℕ → ℕ → Type 0) (some : (i : ℕ) → i < n → (p : ℕ) × (p < m) × Has i p)

@@ -33,7 +33,8 @@ reach_of rows limit s reached spread = record {
       let r = contains_map_of weight_of reached (v, x) h in
       let least = spread.sound r.0.0 r.0.1 r.1 in
       let weight : r.0.1.weight ≡ x = ap (λ (e : ℕ × ℕ). e.1) r.2 in
-      (r.0.1, subst (λ q. IsLeastUpwardPath rows s q r.0.1) (ap (λ (e : ℕ × ℕ). e.0) r.2) least.0, weight, subst (IsWithin limit) weight least.1);
+      let path = subst (λ q. IsLeastUpwardPath rows s q r.0.1) (ap (λ (e : ℕ × ℕ). e.0) r.2) least.0 in
+      (r.0.1, path, weight, subst (IsWithin limit) weight least.1);
   whole = λ v c p low. contains_map weight_of reached (v, c) (spread.whole v c p low);
 }
 

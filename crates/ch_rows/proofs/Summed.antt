@@ -20,7 +20,8 @@ module _ (S : List (ℕ × ℕ) → ℕ → ℕ → Type 0) (Q : ℕ → ℕ →
     (to : (list : List (ℕ × ℕ)) (j x : ℕ) → S list j x → HasSome (Q j x) list)
     (from : (list : List (ℕ × ℕ)) (j x : ℕ) → HasSome (Q j x) list → S list j x)
     (i : ℕ) (bucket : List (ℕ × ℕ)) (entry : ℕ × ℕ) (is : take (i + 1) bucket ≡ take i bucket ++ entry ∷ []) (place sum : ℕ)
-    (gives : (j x : ℕ) → IsOne place sum j x → Q j x entry.0 entry.1) (given : (j x : ℕ) → Q j x entry.0 entry.1 → IsOne place sum j x) where
+    (gives : (j x : ℕ) → IsOne place sum j x → Q j x entry.0 entry.1)
+    (given : (j x : ℕ) → Q j x entry.0 entry.1 → IsOne place sum j x) where
   one_more : (u v w : List ℕ) → AreLowered (S (take i bucket)) u v → AreLowered (IsOne place sum) v w →
       AreLowered (S (take (i + 1) bucket)) u w
   one_more u v w =

@@ -3,17 +3,16 @@
 use Rattle.std.proofs.Common.{length, refl}
 use Rattle.std.proofs.lemmas.Result.{IfOk-weaker}
 use Rattle.ch_hierarchy.specs.declared.side.Side.TheVariants.{Down}
-use Rattle.ch_query.specs.SearchSpace.{IsRankedSpace}
 use Rattle.ch_rows.specs.Buckets.{HoldLists}
 use Rattle.ch_rows.specs.Table.{IsGathered}
 use Rattle.ch_rows.proofs.Gathering.{parts_of}
-use Rattle.ch_rows.proofs.HeldSpaces.{found_few, spaces_held, spaces_within}
+use Rattle.ch_rows.proofs.HeldSpaces.{spaces_few, spaces_held, spaces_within}
 use Rattle.ch_rows.proofs.by_rows.gather_by_rows.Goals as goal
 
 pub gathered-requires-clause-listed : goal.gathered-requires-clause-listed
 gathered-requires-clause-listed g c =
     let a = c.args in
-    found_few (IsRankedSpace a.hierarchy.now Down a.within) a.targets.now c.in_ok-spaces.spaces.items c.in_ok-spaces.ensures.spaces c.requires.lists.1
+    spaces_few a.hierarchy.now Down a.within a.targets.now c.in_ok-spaces.spaces.items c.in_ok-spaces.ensures.spaces c.requires.lists.1
 
 pub gathered-requires-clause-ranks : goal.gathered-requires-clause-ranks
 gathered-requires-clause-ranks g c =

@@ -27,7 +27,8 @@ returns g c =
     let dealt = dealt_by H c.new-dealing.result c.nodes.result c.piece.result a.crew.now.plan.piece c.new-dealing.ensures
     c.nodes.ensures.nodes c.piece.ensures.piece in
     record {
-      rise = subst (λ (d : Deal). HoldSearchSpaces H Up a.within (item_of d) a.sources.now c.in_ok-ups.ups) dealt c.in_ok-ups.ensures.buckets;
+      rise = subst (λ (d : Deal). HoldSearchSpaces H Up a.within (item_of d) a.sources.now c.in_ok-ups.ups) dealt
+          c.in_ok-ups.ensures.buckets;
       fall = subst (λ (d : Deal). HoldSearchSpaces H Down a.within (item_of d) a.targets.now c.in_ok-downs.downs) dealt
           c.in_ok-downs.ensures.buckets;
       rows = refl;

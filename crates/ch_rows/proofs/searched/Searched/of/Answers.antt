@@ -1,17 +1,16 @@
 -- The search spaces of the targets have ranks of nodes, each once, and their buckets are those of the search.
 use Rattle.std.proofs.Common.{sym, subst}
 use Rattle.ch_hierarchy.specs.declared.side.Side.TheVariants.{Down}
-use Rattle.ch_query.specs.SearchSpace.{IsRankedSpace}
 use Rattle.ch_rows.specs.Buckets.{HoldFirst, HoldNearest}
 use Rattle.ch_rows.specs.Direction.{facing}
 use Rattle.ch_rows.proofs.Facing.{kept_facing}
-use Rattle.ch_rows.proofs.HeldSpaces.{found_apart, found_few, spaces_held, spaces_within}
+use Rattle.ch_rows.proofs.HeldSpaces.{spaces_apart, spaces_few, spaces_held, spaces_within}
 use Rattle.ch_rows.proofs.searched.Searched.of.Goals as goal
 
 pub buckets_of-requires-clause-listed : goal.buckets_of-requires-clause-listed
 buckets_of-requires-clause-listed c =
     let a = c.args in
-    found_few (IsRankedSpace (facing a.direction a.hierarchy.now) Down a.within) a.targets.now a.spaces.items c.requires.spaces c.requires.listed
+    spaces_few (facing a.direction a.hierarchy.now) Down a.within a.targets.now a.spaces.items c.requires.spaces c.requires.listed
 
 pub buckets_of-requires-clause-ranks : goal.buckets_of-requires-clause-ranks
 buckets_of-requires-clause-ranks c =
@@ -22,8 +21,7 @@ buckets_of-requires-clause-ranks c =
 pub buckets_of-requires-clause-apart : goal.buckets_of-requires-clause-apart
 buckets_of-requires-clause-apart c =
     let a = c.args in
-    found_apart (IsRankedSpace (facing a.direction a.hierarchy.now) Down a.within) a.targets.now a.spaces.items c.requires.spaces
-    (λ s list space. space.distinct)
+    spaces_apart (facing a.direction a.hierarchy.now) Down a.within a.targets.now a.spaces.items c.requires.spaces
 
 pub returns-clause-searched : goal.returns-clause-searched
 returns-clause-searched c =
