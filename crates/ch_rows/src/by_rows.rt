@@ -64,7 +64,7 @@ struct SourceRows<'a> {
     targets: &'a [u32],
     within: Option<u64>,
     /// By rank, the places of the targets that the node reaches by going down, with the weights of these
-    /// paths.
+    /// paths. They are not sorted, because that takes steps for each node.
     buckets: Rows<(u32, u64)>,
 }
 

@@ -5,6 +5,7 @@ ghost use Rattle.ch_rows.specs.Cells.{AreCells, AreWhole};
 ghost use Rattle.ch_rows.specs.LeastSums.{AreLeastSums};
 ghost use Rattle.ch_rows.specs.Near.{IsNearRow};
 ghost use Rattle.ch_rows.specs.Offers.{AreUnoffered};
+ghost use Rattle.ch_rows.specs.Rooms.{IsNearRoomFor};
 ghost use Rattle.ch_query.specs.Limits.{IsWithin};
 
 use crate::first::sort_and_cut;
@@ -46,8 +47,7 @@ impl<'a> Nearest<'a> {
     ) -> Result<(), AllocError>
         requires source { source < nodes_of self.now.hierarchy }
         requires bound { (x : ℕ) → IsWithin bound x → IsWithin self.now.limit x }
-        requires scratch { room.old.scratch ≡ nodes_of self.now.hierarchy }
-        requires offers { AreUnoffered (length self.now.targets) room.old.offers }
+        requires room { IsNearRoomFor self.now room.old }
         ensures sums { OnOk result (AreLeastSums self.now bound source room.new.offers) }
         ensures scratch { OnOk result (room.new.scratch ≡ nodes_of self.now.hierarchy) }
     {
@@ -82,11 +82,9 @@ impl<'a> Nearest<'a> {
     ) -> Result<(), AllocError>
         requires source { source < nodes_of self.now.hierarchy }
         requires bound { (x : ℕ) → IsWithin bound x → IsWithin self.now.limit x }
-        requires scratch { room.old.scratch ≡ nodes_of self.now.hierarchy }
-        requires offers { AreUnoffered (length self.now.targets) room.old.offers }
+        requires room { IsNearRoomFor self.now room.old }
         ensures row { OnOk result (IsNearRow self.now.hierarchy bound self.now.count self.now.targets source room.new.row.items) }
-        ensures scratch { OnOk result (room.new.scratch ≡ nodes_of self.now.hierarchy) }
-        ensures offers { OnOk result (AreUnoffered (length self.now.targets) room.new.offers) }
+        ensures room { OnOk result (IsNearRoomFor self.now room.new) }
     {
         self.offer_sums(room, source, bound)?;
         let NearRoom { offers, row, .. } = room;
@@ -106,11 +104,9 @@ impl<'a> Nearest<'a> {
     ) -> Result<(), AllocError>
         requires source { source < nodes_of self.now.hierarchy }
         requires within { (x : ℕ) → IsWithin within x → IsWithin self.now.limit x }
-        requires scratch { room.old.scratch ≡ nodes_of self.now.hierarchy }
-        requires offers { AreUnoffered (length self.now.targets) room.old.offers }
+        requires room { IsNearRoomFor self.now room.old }
         ensures row { OnOk result (IsNearRow self.now.hierarchy within self.now.count self.now.targets source room.new.row.items) }
-        ensures scratch { OnOk result (room.new.scratch ≡ nodes_of self.now.hierarchy) }
-        ensures offers { OnOk result (AreUnoffered (length self.now.targets) room.new.offers) }
+        ensures room { OnOk result (IsNearRoomFor self.now room.new) }
     {
         let guess = room.guess;
         if is_lesser(guess, within) {
@@ -131,11 +127,9 @@ impl<'a> Nearest<'a> {
         row: &mut Vec<(u64, u32)>,
     ) -> Result<(), AllocError>
         requires source { source < nodes_of self.now.hierarchy }
-        requires scratch { room.old.scratch ≡ nodes_of self.now.hierarchy }
-        requires offers { AreUnoffered (length self.now.targets) room.old.offers }
+        requires room { IsNearRoomFor self.now room.old }
         ensures row { OnOk result (IsNearRow self.now.hierarchy self.now.limit self.now.count self.now.targets source row.new.items) }
-        ensures scratch { OnOk result (room.new.scratch ≡ nodes_of self.now.hierarchy) }
-        ensures offers { OnOk result (AreUnoffered (length self.now.targets) room.new.offers) }
+        ensures room { OnOk result (IsNearRoomFor self.now room.new) }
     {
         self.fill_by_guess(alloc, room, source, self.searched.within)?;
         row.clear();
@@ -153,11 +147,9 @@ impl<'a> Nearest<'a> {
     ) -> Result<(), AllocError>
         requires whole { AreWhole self.now }
         requires source { source < nodes_of self.now.hierarchy }
-        requires scratch { room.old.scratch ≡ nodes_of self.now.hierarchy }
-        requires offers { AreUnoffered (length self.now.targets) room.old.offers }
+        requires room { IsNearRoomFor self.now room.old }
         ensures cells { OnOk result (AreCells self.now source cells.new.items) }
-        ensures scratch { OnOk result (room.new.scratch ≡ nodes_of self.now.hierarchy) }
-        ensures offers { OnOk result (AreUnoffered (length self.now.targets) room.new.offers) }
+        ensures room { OnOk result (IsNearRoomFor self.now room.new) }
     {
         self.offer_sums(room, source, self.searched.within)?;
         let NearRoom {

@@ -16,7 +16,8 @@ returns-clause-row c =
     near_row w.hierarchy w.limit w.count w.targets sums.buckets sums.held c.args.bound c.requires.bound c.args.source sums.space sums.up
     sums.fresh c.offer_sums.new.room.offers row c.sort_and_cut.new.row.items sums.none sums.offered c.in_ok-take.ensures.taken cut
 
-pub returns-clause-offers : goal.returns-clause-offers
-returns-clause-offers c =
+pub returns-clause-room : goal.returns-clause-room
+returns-clause-room c =
     let sums = c.in_ok-offer_sums.ensures.sums in
-    subst (λ n. AreUnoffered n c.take.new.self) (sums.offered.size ∙ sums.none.size) c.in_ok-take.ensures.none
+    let none = subst (λ n. AreUnoffered n c.take.new.self) (sums.offered.size ∙ sums.none.size) c.in_ok-take.ensures.none in
+    (c.in_ok-offer_sums.ensures.scratch, none)

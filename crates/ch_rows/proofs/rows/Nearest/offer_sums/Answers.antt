@@ -21,7 +21,7 @@ lower_by_search-requires-clause-ranks c =
 pub lower_by_search-requires-clause-buckets : goal.lower_by_search-requires-clause-buckets
 lower_by_search-requires-clause-buckets c rank =
     let t = c.self.inside in
-    let none = subst (λ (w : Wanted). AreUnoffered (length w.targets) c.args.room.now.offers) (sym c.self.view_is) c.requires.offers in
+    let none = subst (λ (w : Wanted). AreUnoffered (length w.targets) c.args.room.now.offers) (sym c.self.view_is) c.requires.room.1 in
     subst (λ n. IsBucketAmong n (slice_index_or t.searched.now.buckets rank [])) (sym none.size)
     (bucket_among (facing t.searched.now.direction t.hierarchy.now) t.searched.now.within t.searched.now.count
     t.searched.now.targets.items t.searched.now.buckets c.self.invariant rank)
@@ -31,7 +31,7 @@ returns-clause-sums c =
     let t = c.self.inside in
     let bound = c.args.bound in
     let s = c.args.source in
-    let none = subst (λ (w : Wanted). AreUnoffered (length w.targets) c.args.room.now.offers) (sym c.self.view_is) c.requires.offers in
+    let none = subst (λ (w : Wanted). AreUnoffered (length w.targets) c.args.room.now.offers) (sym c.self.view_is) c.requires.room.1 in
     let found = c.in_ok-lower_by_search.ensures.lowered in
     subst (λ (w : Wanted). AreLeastSums w bound s c.lower_by_search.new.row) c.self.view_is
     (record {

@@ -20,7 +20,8 @@ returns-clause-cells c =
           sums.fresh least sums.none sums.offered;
     })
 
-pub returns-clause-offers : goal.returns-clause-offers
-returns-clause-offers c =
+pub returns-clause-room : goal.returns-clause-room
+returns-clause-room c =
     let sums = c.in_ok-offer_sums.ensures.sums in
-    subst (λ n. AreUnoffered n c.take.new.self) (sums.offered.size ∙ sums.none.size) c.in_ok-take.ensures.none
+    let none = subst (λ n. AreUnoffered n c.take.new.self) (sums.offered.size ∙ sums.none.size) c.in_ok-take.ensures.none in
+    (c.in_ok-offer_sums.ensures.scratch, none)
