@@ -17,10 +17,6 @@ pub record AreCells (wanted : Wanted) (s : ℕ) (words : List ℕ) : Type 0 wher
   pub each : (j : ℕ) → j < length wanted.targets →
       IsCellTo wanted.hierarchy wanted.limit s (slice_index wanted.targets j) (slice_index words j)
 
--- no row leaves a target out because of their number
-abbrev pub AreWhole : Wanted → Type 0
-AreWhole wanted = IsWithin wanted.count (length wanted.targets)
-
 -- the most that a sum of the weights of two paths may be, if it is within the limit
 pub record IsMostSum (limit : Option ℕ) (most : ℕ) : Type 0 where
   pub limits : most ≤ MOST_SUM

@@ -2,8 +2,8 @@
 ghost use Rattle.std.specs.Prelude.{◌≡◌, ◌≢◌, ◌↔◌, ◌<◌, ◌≤◌, None, length, All, IfOk, IsTrue, OnOk};
 ghost use Rattle.ch_graph.specs.declared.limits.TheConstants.{MOST_LISTED};
 ghost use Rattle.ch_hierarchy.specs.Hierarchy.{nodes_of};
-ghost use Rattle.ch_rows.specs.Kept.{AreCellsOf, AreKeptIn, IsRowOf, IsWhole, asked_by};
 ghost use Rattle.ch_query.specs.Distance.{IsKeptForSome};
+ghost use Rattle.ch_rows.specs.Kept.{AreCellsOf, AreKeptIn, IsRowOf, IsWhole, asked_by};
 
 use crate::direction::Direction;
 use crate::rows::{NearRoom, Nearest};

@@ -2,11 +2,11 @@
 ghost use Rattle.std.specs.Prelude.{ℕ, ◌≡◌, ◌<◌, ◌≤◌, length, All, IfOk, OnOk};
 ghost use Rattle.ch_graph.specs.declared.limits.TheConstants.{MOST_LISTED};
 ghost use Rattle.ch_hierarchy.specs.Hierarchy.{nodes_of};
+ghost use Rattle.ch_query.specs.Distance.{IsKeptForSome};
+ghost use Rattle.ch_query.specs.Limits.{IsWithin};
 ghost use Rattle.ch_rows.specs.Direction.{facing};
 ghost use Rattle.ch_rows.specs.Near.{IsNearRow};
 ghost use Rattle.ch_rows.specs.Rooms.{IsNearRoomFor};
-ghost use Rattle.ch_query.specs.Distance.{IsKeptForSome};
-ghost use Rattle.ch_query.specs.Limits.{IsWithin};
 
 use crate::direction::Direction;
 use crate::rows::{NearRoom, Nearest};

@@ -1,12 +1,12 @@
 //! The rows of sources by searches, one from each source.
 ghost use Rattle.std.specs.Prelude.{◌≡◌, ◌<◌, ◌≤◌, ℕ, true, Some, length, IfOk, OnOk};
 ghost use Rattle.ch_hierarchy.specs.Hierarchy.{nodes_of};
-ghost use Rattle.ch_rows.specs.Cells.{AreCells, AreWhole};
+ghost use Rattle.ch_query.specs.Limits.{IsWithin};
+ghost use Rattle.ch_rows.specs.Cells.{AreCells};
 ghost use Rattle.ch_rows.specs.LeastSums.{AreLeastSums};
 ghost use Rattle.ch_rows.specs.Near.{IsNearRow};
 ghost use Rattle.ch_rows.specs.Offers.{AreUnoffered};
 ghost use Rattle.ch_rows.specs.Rooms.{IsNearRoomFor};
-ghost use Rattle.ch_query.specs.Limits.{IsWithin};
 
 use crate::first::sort_and_cut;
 use crate::offers::Offers;
@@ -145,7 +145,7 @@ impl<'a> Nearest<'a> {
         source: u32,
         cells: &mut Vec<u64>,
     ) -> Result<(), AllocError>
-        requires whole { AreWhole self.now }
+        requires whole { IsWithin self.now.count (length self.now.targets) }
         requires source { source < nodes_of self.now.hierarchy }
         requires room { IsNearRoomFor self.now room.old }
         ensures cells { OnOk result (AreCells self.now source cells.new.items) }

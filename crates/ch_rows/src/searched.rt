@@ -3,10 +3,10 @@ ghost use Rattle.std.specs.Prelude.{◌≡◌, ◌<◌, ◌≤◌, length, IfOk}
 ghost use Rattle.std.specs.List.{AllZip};
 ghost use Rattle.ch_graph.specs.declared.limits.TheConstants.{MOST_LISTED};
 ghost use Rattle.ch_hierarchy.specs.declared.side.Side.TheVariants.{Down};
-ghost use Rattle.ch_rows.specs.Direction.{facing};
-ghost use Rattle.ch_rows.specs.Searched.{AreSearched, asked_of};
 ghost use Rattle.ch_query.specs.Distance.{IsKeptForSome};
 ghost use Rattle.ch_query.specs.SearchSpace.{IsRankedSpace};
+ghost use Rattle.ch_rows.specs.Direction.{facing};
+ghost use Rattle.ch_rows.specs.Searched.{AreSearched, asked_of};
 
 use crate::direction::Direction;
 use crate::first::buckets_of;

@@ -4,10 +4,10 @@ ghost use Rattle.std.specs.List.{AllZip};
 ghost use Rattle.ch_graph.specs.declared.limits.TheConstants.{MOST_LISTED};
 ghost use Rattle.ch_hierarchy.specs.Hierarchy.{nodes_of};
 ghost use Rattle.ch_hierarchy.specs.declared.side.Side.TheVariants.{Down};
-ghost use Rattle.ch_rows.specs.Buckets.{AreRanksApart, HoldLists};
-ghost use Rattle.ch_rows.specs.Direction.{facing};
 ghost use Rattle.ch_query.specs.Distance.{IsKeptForSome};
 ghost use Rattle.ch_query.specs.SearchSpace.{IsRankedSpace};
+ghost use Rattle.ch_rows.specs.Buckets.{AreRanksApart, HoldLists};
+ghost use Rattle.ch_rows.specs.Direction.{facing};
 
 use crate::direction::Direction;
 use ch_graph::{Rows, gather};
