@@ -6,6 +6,7 @@ pub mod Written
 pub mod LegPairs
 pub mod LoweredPairs
 pub mod StepPairs
+pub mod Parts
 pub mod Flat
 pub mod RelaxedRows
 pub mod Steps

@@ -88,7 +88,12 @@ pub record IsSound (f : OrderAndPairs) : Type 0 where
   pub ordered : (v : ℕ) → AllPairs ◌<◌ (slice_index_or f.pairs v [])
   pub higher : AreHigher (length f.pairs) f.order f.pairs
 
--- these are sound, and a topology of the graph
+-- these are sound, and of the nodes of the graph
+pub record AreRowsIn (g : Network) (order : List ℕ) (rows : List (List ℕ)) : Type 0 where
+  pub size : length rows ≡ g.nodes
+  pub sound : IsSound (record { order = order; pairs = rows })
+
+-- and a topology of the graph
 pub record AreFor (g : Network) (order : List ℕ) (rows : List (List ℕ)) : Type 0 where
   pub size : length rows ≡ g.nodes
   pub sound : IsSound (record { order = order; pairs = rows })

@@ -68,8 +68,8 @@ pub(crate) fn first_from(row: &[LegPair], from: usize, node: u32) -> usize
     place
 }
 
-/// Returns the place of the others after `from` if the row has later nodes alone, and else 0: the pairs before it lower
-/// nothing.
+/// Returns the place of the others after `from` if the row has later nodes alone, the last if it has none, and else 0: the
+/// pairs before it lower nothing.
 #[inline]
 fn first_lowering(others: &[LegPair], from: usize, row: &[LegPair]) -> usize
     requires others { IsReady others.now }
@@ -78,7 +78,9 @@ fn first_lowering(others: &[LegPair], from: usize, row: &[LegPair]) -> usize
     ensures before { (k j : ℕ) (d e : AnyPair) → k < result → j < length row.now →
         (slice_index_or others.now k d).node < (slice_index_or row.now j e).node }
 {
-    if from < others.len() && !row.is_empty() && others[from].node < row[0].node {
+    if row.is_empty() {
+        others.len()
+    } else if from < others.len() && others[from].node < row[0].node {
         from + 1
     } else {
         0

@@ -1,11 +1,12 @@
 //! The legs of a topology: a pair of legs for each pair of nodes, whether there are legs or not.
-ghost use Rattle.std.specs.Prelude.{◌≡◌, ◌+◌, ◌++◌, ◌^◌, ◌<◌, [], All};
+ghost use Rattle.std.specs.Prelude.{◌≡◌, ℕ, ◌+◌, ◌++◌, ◌^◌, ◌<◌, [], All, slice_index};
 ghost use Rattle.std.specs.Prelude.{Contains, IfOk, OnOk, filter, length, map, slice_index_or, slice_set};
 ghost use Rattle.ch_hierarchy.specs.declared.side.Side.{Side as AnySide};
 ghost use Rattle.ch_custom.specs.declared.leg_pair.LegPair.{LegPair as AnyPair};
 ghost use Rattle.ch_custom.specs.Opening.{is_live as has_leg};
 ghost use Rattle.ch_custom.specs.Metric.{IsHeld};
 ghost use Rattle.ch_custom.specs.LegPairs.{no_pair, unbeaten_pair, lightened_pair, pairs_row, row_of};
+ghost use Rattle.ch_custom.specs.Parts.{AreGathered};
 ghost use Rattle.ch_custom.specs.LegPairs.{rows_at, AreHeld, IsReady, ArePairsLowered, ArePairsRelaxed};
 
 use crate::leg_pair::LegPair;
@@ -57,6 +58,30 @@ impl Metric {
         Ok(Metric { starts, pairs })
     }
 
+    /// Returns the rows of all nodes, each from the arrays of its part.
+    ///
+    /// # Errors
+    /// `AllocError` if there is no memory for the rows.
+    pub(crate) fn gathered(
+        alloc: Global,
+        parts: &[u32],
+        metrics: &[Metric],
+    ) -> Result<Metric, AllocError>
+        requires few { length parts.now + 1 < 2 ^ 32 }
+        requires parts { (v : ℕ) → v < length parts.now → slice_index parts.now v < length metrics.now }
+        requires rows { (v : ℕ) → v < length parts.now → v < length (slice_index_or metrics.now (slice_index parts.now v) []) }
+        ensures { IfOk result (AreGathered parts.now metrics.now) }
+    {
+        let mut starts = Vec::with_capacity(alloc, parts.len() + 1)?;
+        let mut pairs = Vec::with_capacity(alloc, count_all(metrics))?;
+        starts.push(0usize)?;
+        for node in 0..parts.len() {
+            pairs.extend_from_slice(metrics[parts[node] as usize].row(node as u32))?;
+            starts.push(pairs.len())?;
+        }
+        Ok(Metric { starts, pairs })
+    }
+
     /// The pairs of one node.
     pub(crate) fn row(&self, node: u32) -> &[LegPair]
         requires { node < length self.now }
@@ -65,6 +90,11 @@ impl Metric {
         let start = self.starts[node as usize];
         let end = self.starts[node as usize + 1];
         &self.pairs[start..end]
+    }
+
+    /// The number of pairs of all nodes.
+    fn pair_count(&self) -> usize {
+        self.pairs.len()
     }
 
     /// Copies the pairs of one node into a vector, in place of what it had.
@@ -196,6 +226,15 @@ fn count_pairs(topology: &Rows<u32>) -> usize {
     let mut count = 0usize;
     for node in 0..topology.row_count() {
         count = count.saturating_add(topology.row(node).len());
+    }
+    count
+}
+
+/// Returns the number of pairs of all these arrays, or `usize::MAX` if there are more.
+fn count_all(metrics: &[Metric]) -> usize {
+    let mut count = 0usize;
+    for place in 0..metrics.len() {
+        count = count.saturating_add(metrics[place].pair_count());
     }
     count
 }

@@ -226,7 +226,7 @@ fn hand_on(
 }
 
 /// Returns the node of a row that comes first in the order.
-fn first_of(levels: &[u32], row: &[u32]) -> u32
+pub(crate) fn first_of(levels: &[u32], row: &[u32]) -> u32
     requires some { 0 < length row.now }
     requires within { (y : ℕ) → Contains row.now y → y < length levels.now }
     ensures within { Contains row.now result }

@@ -14,16 +14,15 @@ use Rattle.ch_graph.specs.Graph.{Network, IsWithinLimits}
 use Rattle.ch_graph.proofs.Lists.{contains_map, contains_map_of}
 use Rattle.ch_hierarchy.specs.declared.leg.Leg.{Leg}
 use Rattle.ch_hierarchy.specs.Rows.{row}
-use Rattle.ch_hierarchy.specs.Saved.{AreLevelsOf}
+use Rattle.ch_hierarchy.specs.Saved.{IsOrderOf, AreLevelsOf}
 use Rattle.ch_hierarchy.proofs.theory.Ordered.{same_ends}
 use Rattle.ch_contract.specs.Legs.{Label, turned_legs, opening, arc_label, arc_label_of, least_weight, lesser_weight}
 use Rattle.ch_contract.proofs.code.OpenLists.{least_weight_push}
 use Rattle.ch_custom.specs.Metric.{held_leg, IsHeld}
-use Rattle.ch_custom.specs.Topologies.{HasLegs, IsMetric, legs_after, AreFor, AreMetricsAt}
+use Rattle.ch_custom.specs.Topologies.{AreHigher, HasLegs, IsMetric, legs_after, AreRowsIn, AreMetricsAt}
 use Rattle.ch_custom.specs.Opening.{no_leg, lightened, legs_of, AreOfArcs, IsPut}
 use Rattle.ch_custom.proofs.theory.Relaxing.{node_of, same_nodes}
 use Rattle.ch_custom.proofs.theory.RowLoops.{take_more}
-use Rattle.ch_custom.proofs.theory.Steps.{nodes, higher}
 
 -- a leg that may become lighter stays at its node
 lightened_node : (y weight : ℕ) (l : Leg) → (lightened y weight l).node ≡ l.node
@@ -166,14 +165,22 @@ push_other u w arcs a ne = least_weight_push u w arcs a ∙ at (a.from == u && a
     at true e = let is = same_ends u w a.from a.to e in absurd (ne (sym is.0) (sym is.1))
     at false e = refl
 
-module _ (g : Network) (order levels : List ℕ) (rows : List (List ℕ)) (limits : IsWithinLimits g) (ready : AreFor g order rows)
+module _ (g : Network) (order levels : List ℕ) (rows : List (List ℕ)) (limits : IsWithinLimits g) (ready : AreRowsIn g order rows)
     (levelled : AreLevelsOf order levels) where
+  -- the order has each node once
+  is_order : IsOrderOf g.nodes order
+  is_order = subst (λ n. IsOrderOf n order) ready.size ready.sound.nodes
+
+  -- the rows lead to higher places
+  higher : AreHigher g.nodes order rows
+  higher = subst (λ n. AreHigher n order rows) ready.size ready.sound.higher
+
   -- a node in a row has a greater level
   rising : (i w : ℕ) → i < g.nodes → Contains (slice_index_or rows (slice_index order i) []) w →
       slice_index levels (slice_index order i) < slice_index levels w
   rising i w lt c =
-      let count = (nodes g order rows limits ready).count in
-      let h = higher g order rows limits ready i w lt c in
+      let count = is_order.count in
+      let h = higher i w lt c in
       let mine = levelled.each i (omega arith) in
       let its = levelled.each h.0 (omega (arith, h.2)) in
       let same : slice_index levels (slice_index order h.0) ≡ slice_index levels w = ap (slice_index levels) h.3 in
@@ -212,7 +219,7 @@ module _ (g : Network) (order levels : List ℕ) (rows : List (List ℕ)) (limit
   open_row : (i : ℕ) → i < g.nodes →
       row (map (λ r. map no_leg r) rows) (slice_index order i) ≡ map no_leg (slice_index_or rows (slice_index order i) [])
   open_row i lt =
-      let is = nodes g order rows limits ready in
+      let is = is_order in
       let count = is.count in
       let size = ready.size in
       let within = is.within i (omega arith) in

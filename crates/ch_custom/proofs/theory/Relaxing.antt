@@ -70,16 +70,17 @@ over_no_first : (n v : ℕ) (o p q : Option Label) → o ≡ None → leg_over n
 over_no_first n v None p q e = refl
 over_no_first n v (Some a) p q e = absurd (none-some a (sym e))
 
-module _ (n : ℕ) (order : List ℕ) (rows : List (List ℕ)) (T : ℕ → Legs) (k : ℕ) (firsts seconds : List Leg) (old new : List (List Leg))
+-- the arrays have the rows `own`, and the node that is taken has its whole row
+module _ (n : ℕ) (order : List ℕ) (rows own : List (List ℕ)) (T : ℕ → Legs) (k : ℕ) (firsts seconds : List Leg) (old new : List (List Leg))
     (small : k < n) (single : (i j : ℕ) → i < n → j < n → slice_index order i ≡ slice_index order j → i ≡ j)
-    (higher : AreHigher n order rows)
+    (higher : AreHigher n order rows) (higher_own : AreHigher n order own)
     (low : (x w : ℕ) → x ≢ slice_index order k → w ≢ slice_index order k → x ≢ w →
     T (k + 1) x w ≡ leg_over_at n (slice_index order k) (T k) x w)
     (stays : (i : ℕ) → k < i → i < n → (Contains (slice_index_or rows (slice_index order k) []) (slice_index order i) → ⊥) →
     HasNone (T k) (slice_index order k) (slice_index order i))
     (one : HasLegs (λ x. T k x (slice_index order k)) (slice_index_or rows (slice_index order k) []) firsts)
     (two : HasLegs (T k (slice_index order k)) (slice_index_or rows (slice_index order k) []) seconds)
-    (metric : IsMetric n order rows (λ i. T (min i k)) old) (relaxed : AreRelaxed n (slice_index order k) firsts seconds old new) where
+    (metric : IsMetric n order own (λ i. T (min i k)) old) (relaxed : AreRelaxed n (slice_index order k) firsts seconds old new) where
   abbrev node : ℕ → ℕ
   node i = slice_index order i
 
@@ -88,6 +89,9 @@ module _ (n : ℕ) (order : List ℕ) (rows : List (List ℕ)) (T : ℕ → Legs
 
   abbrev row_of : ℕ → List ℕ
   row_of x = slice_index_or rows x []
+
+  abbrev own_row : ℕ → List ℕ
+  own_row x = slice_index_or own x []
 
   -- different places have different nodes
   apart : (i j : ℕ) → i < j → j < n → node i ≢ node j
@@ -103,14 +107,14 @@ module _ (n : ℕ) (order : List ℕ) (rows : List (List ℕ)) (T : ℕ → Legs
 
   module _ (i : ℕ) (past : k < i) (lt : i < n) where
     -- the legs of the row before the step
-    before : HasLegs (T k (node i)) (row_of (node i)) (row old (node i))
+    before : HasLegs (T k (node i)) (own_row (node i)) (row old (node i))
     before = let e : min i k ≡ k = omega arith in
-        subst (λ z. HasLegs (T z (node i)) (row_of (node i)) (row old (node i))) e (metric.each i lt)
+        subst (λ z. HasLegs (T z (node i)) (own_row (node i)) (row old (node i))) e (metric.each i lt)
 
     -- the node of the row is not v, and the nodes in the row are neither
-    others : (w : ℕ) → Contains (row_of (node i)) w → (w ≢ v) × (node i ≢ v) × (node i ≢ w) × ((j : ℕ) × (k < j) × (j < n) × (node j ≡ w))
+    others : (w : ℕ) → Contains (own_row (node i)) w → (w ≢ v) × (node i ≢ v) × (node i ≢ w) × ((j : ℕ) × (k < j) × (j < n) × (node j ≡ w))
     others w c =
-        let h = higher i w lt c in (
+        let h = higher_own i w lt c in (
           (λ e. apart k h.0 (omega (arith, h.1)) h.2 (sym (h.3 ∙ e))),
           (λ e. apart k i past lt (sym e)),
           (λ e. apart i h.0 h.1 h.2 (e ∙ sym h.3)),
@@ -118,13 +122,13 @@ module _ (n : ℕ) (order : List ℕ) (rows : List (List ℕ)) (T : ℕ → Legs
         )
 
     -- the node of a leg of the row is in the row of the topology
-    within : (l : Leg) → Contains (row old (node i)) l → Contains (row_of (node i)) l.node
+    within : (l : Leg) → Contains (row old (node i)) l → Contains (own_row (node i)) l.node
     within l c = subst (λ (z : List ℕ). Contains z l.node) before.ends (contains_map node_of (row old (node i)) l c)
 
     -- a row that is not lowered has the right legs
     untouched : (Contains (row_of v) (node i) → ⊥) → row new (node i) ≡ row old (node i) →
-        HasLegs (T (k + 1) (node i)) (row_of (node i)) (row new (node i))
-    untouched none same = subst (HasLegs (T (k + 1) (node i)) (row_of (node i))) (sym same) (record {
+        HasLegs (T (k + 1) (node i)) (own_row (node i)) (row new (node i))
+    untouched none same = subst (HasLegs (T (k + 1) (node i)) (own_row (node i))) (sym same) (record {
       ends = before.ends;
       each = λ l c.
           let o = others l.node (within l c) in
@@ -135,7 +139,7 @@ module _ (n : ℕ) (order : List ℕ) (rows : List (List ℕ)) (T : ℕ → Legs
     -- a row that is lowered has the right legs
     touched : (a : ℕ) (d : Leg) → a < length seconds → (get_or seconds a d).node ≡ node i →
         AreLoweredOver n v (get_or firsts a d) seconds (row old (node i)) (row new (node i)) → All IsHeld (row new (node i)) →
-        HasLegs (T (k + 1) (node i)) (row_of (node i)) (row new (node i))
+        HasLegs (T (k + 1) (node i)) (own_row (node i)) (row new (node i))
     touched a d inside is rel held = record {
       ends = same_nodes (row new (node i)) (row old (node i)) rel.size rel.nodes ∙ before.ends;
       each = λ l c.
@@ -174,7 +178,7 @@ module _ (n : ℕ) (order : List ℕ) (rows : List (List ℕ)) (T : ℕ → Legs
     }
 
   -- a row of a place that was taken before, or is taken now, stays
-  frozen : (i : ℕ) → i ≤ k → i < n → HasLegs (T (min i (k + 1)) (node i)) (row_of (node i)) (row new (node i))
+  frozen : (i : ℕ) → i ≤ k → i < n → HasLegs (T (min i (k + 1)) (node i)) (own_row (node i)) (row new (node i))
   frozen i le lt =
       let e : min i k ≡ min i (k + 1) = omega arith in
       let same : row new (node i) ≡ row old (node i) = relaxed.kept (node i) (λ a d first inside at.
@@ -182,11 +186,11 @@ module _ (n : ℕ) (order : List ℕ) (rows : List (List ℕ)) (T : ℕ → Legs
       let h = higher k (node i) small c in
       apart i h.0 (omega (arith, h.1)) h.2 (sym h.3))
       in
-      subst (HasLegs (T (min i (k + 1)) (node i)) (row_of (node i))) (sym same)
-      (subst (λ z. HasLegs (T z (node i)) (row_of (node i)) (row old (node i))) e (metric.each i lt))
+      subst (HasLegs (T (min i (k + 1)) (node i)) (own_row (node i))) (sym same)
+      (subst (λ z. HasLegs (T z (node i)) (own_row (node i)) (row old (node i))) e (metric.each i lt))
 
   -- the row of a later place
-  later : (i : ℕ) → k < i → i < n → HasLegs (T (k + 1) (node i)) (row_of (node i)) (row new (node i))
+  later : (i : ℕ) → k < i → i < n → HasLegs (T (k + 1) (node i)) (own_row (node i)) (row new (node i))
   later i past lt = elim (leg_at seconds (node i)) [
     | inl m ↦
         let c = m.1 in
@@ -199,17 +203,65 @@ module _ (n : ℕ) (order : List ℕ) (rows : List (List ℕ)) (T : ℕ → Legs
   ]
 
   -- all rows are right after the step
-  pub keeps_metric : IsMetric n order rows (λ i. T (min i (k + 1))) new
+  pub keeps_metric : IsMetric n order own (λ i. T (min i (k + 1))) new
   keeps_metric = record {
     size = relaxed.size ∙ metric.size;
     each = λ i lt. elim (cases_lt k i) [
       | inl past ↦ let e : k + 1 ≡ min i (k + 1) = omega arith in
-          subst (λ z. HasLegs (T z (node i)) (row_of (node i)) (row new (node i))) e (later i past lt)
+          subst (λ z. HasLegs (T z (node i)) (own_row (node i)) (row new (node i))) e (later i past lt)
       | inr le ↦ frozen i le lt
+    ];
+  }
+
+module _ (n : ℕ) (order : List ℕ) (rows own : List (List ℕ)) (T : ℕ → Legs) (k : ℕ)
+    (single : (i j : ℕ) → i < n → j < n → slice_index order i ≡ slice_index order j → i ≡ j) (higher_own : AreHigher n order own)
+    (low : (x w : ℕ) → x ≢ slice_index order k → w ≢ slice_index order k → x ≢ w →
+    T (k + 1) x w ≡ leg_over_at n (slice_index order k) (T k) x w)
+    (stays : (i : ℕ) → k < i → i < n → (Contains (slice_index_or rows (slice_index order k) []) (slice_index order i) → ⊥) →
+    HasNone (T k) (slice_index order k) (slice_index order i))
+    (passes : (i x : ℕ) → k < i → i < n → Contains (slice_index_or own (slice_index order i) []) x →
+    Contains (slice_index_or rows (slice_index order k) []) (slice_index order i) → ⊥) where
+  -- a later row of the arrays is not in the row of the node that is taken, so its legs stay
+  passed_row : (i : ℕ) → k < i → i < n → (legs : List Leg) →
+      HasLegs (T k (slice_index order i)) (slice_index_or own (slice_index order i) []) legs →
+      HasLegs (T (k + 1) (slice_index order i)) (slice_index_or own (slice_index order i) []) legs
+  passed_row i past lt legs has = record {
+    ends = has.ends;
+    each = λ l c.
+        let in_row = subst (λ (z : List ℕ). Contains z l.node) has.ends (contains_map node_of legs l c) in
+        let h = higher_own i l.node lt in_row in
+        let here : slice_index order i ≢ slice_index order k =
+        λ e. (let same = single i k lt (omega arith) e in omega arith) in
+        let there : l.node ≢ slice_index order k =
+        λ e. (let same = single h.0 k h.2 (omega arith) (h.3 ∙ e) in omega (arith, h.1)) in
+        let apart : slice_index order i ≢ l.node =
+        λ e. (let same = single i h.0 lt h.2 (e ∙ sym h.3) in omega (arith, h.1)) in
+        has.each l c
+        ∙ sym (low (slice_index order i) l.node here there apart
+        ∙ over_no_first n (slice_index order k) _ _ _ (stays i past lt (passes i l.node past lt in_row)).1);
+    held = has.held;
+  }
+
+  -- all rows are right after the step, though none is lowered
+  pub passed : (metric : List (List Leg)) → IsMetric n order own (λ i. T (min i k)) metric →
+      IsMetric n order own (λ i. T (min i (k + 1))) metric
+  passed metric are = record {
+    size = are.size;
+    each = λ i lt. elim (cases_lt k i) [
+      | inl past ↦
+          let e : k ≡ min i k = omega arith in
+          let f : k + 1 ≡ min i (k + 1) = omega arith in
+          subst (λ z. HasLegs (T z (slice_index order i)) (slice_index_or own (slice_index order i) [])
+          (row metric (slice_index order i))) f (passed_row i past lt (row metric (slice_index order i))
+          (subst (λ z. HasLegs (T z (slice_index order i)) (slice_index_or own (slice_index order i) [])
+          (row metric (slice_index order i))) (sym e) (are.each i lt)))
+      | inr le ↦ let e : min i k ≡ min i (k + 1) = omega arith in
+          subst (λ z. HasLegs (T z (slice_index order i)) (slice_index_or own (slice_index order i) [])
+          (row metric (slice_index order i))) e (are.each i lt)
     ];
   }
 
 -- one step keeps the arrays right
 pub relaxing_keeps_metrics : RelaxingKeepsMetrics
 relaxing_keeps_metrics n order rows T k firsts seconds old new small single higher low stays one two metric relaxed =
-    keeps_metric n order rows T k firsts seconds old new small single higher low stays one two metric relaxed
+    keeps_metric n order rows rows T k firsts seconds old new small single higher higher low stays one two metric relaxed

@@ -16,9 +16,14 @@ use Rattle.ch_contract.specs.Order.{AreTaken}
 use Rattle.ch_contract.proofs.theory.RowLegs.{none_unless}
 use Rattle.ch_custom.specs.Customizing.{leg_over, cheaper_leg, legs_lowered, Lowers, StaysIn}
 use Rattle.ch_custom.specs.Metric.{IsHeld}
-use Rattle.ch_custom.specs.Topologies.{AreHigher, HasLegs, IsMetric, AreRelaxed, HasNone, legs_after, AreFor, AreMetricsAt}
+use Rattle.ch_custom.specs.Topologies.{AreHigher, HasLegs, IsMetric, AreRelaxed, HasNone, leg_over_at, legs_after, AreRowsIn, AreFor}
+use Rattle.ch_custom.specs.Topologies.{AreMetricsAt}
 use Rattle.ch_custom.proofs.theory.Customizing.{legs_stay_in_topologies}
-use Rattle.ch_custom.proofs.theory.Relaxing.{node_of, relaxing_keeps_metrics}
+use Rattle.ch_custom.proofs.theory.Relaxing.{node_of, keeps_metric, passed}
+
+-- the rows of a topology are sound
+pub sound_rows : (g : Network) (order : List ℕ) (rows : List (List ℕ)) → AreFor g order rows → AreRowsIn g order rows
+sound_rows g order rows ready = record { size = ready.size; sound = ready.sound }
 
 -- a row whose nodes are in order is in order
 pub ordered_row : (legs : List Leg) (nodes : List ℕ) → map (λ l. l.node) legs ≡ nodes → AllPairs ◌<◌ nodes → IsRow legs
@@ -105,102 +110,104 @@ module _ (g : Network) (order : List ℕ) (rows : List (List ℕ)) (limits : IsW
       let stays = in_topology k (omega arith) k i past below in
       (none_unless _ (λ l e. not (stays.0 (rw e refl))), none_unless _ (λ l e. not (stays.1 (rw e refl))))
 
-  -- the row of a node that is in the row of another is in order and can be added up
-  pub ready_row : (T : ℕ → Legs) (metric : List (List Leg)) → IsMetric g.nodes order rows T metric → (k w : ℕ) → k < g.nodes →
-      Contains (slice_index_or rows (slice_index order k) []) w →
-      (w < length metric) × IsRow (row metric w) × All IsHeld (row metric w)
-  ready_row T metric are k w lt c =
-      let h = higher k w lt c in
-      let size = are.size in
-      let count = nodes.count in
-      let within = nodes.within h.0 (omega (arith, h.2)) in
-      let has = are.each h.0 h.2 in
-      subst (λ z. (z < length metric) × IsRow (row metric z) × All IsHeld (row metric z)) h.3
-      (omega arith, ordered_row _ _ has.ends (ready.sound.ordered (slice_index order h.0)), has.held)
+  -- the legs of the node that is taken, where the arrays have its whole row
+  pub taken_legs : (own : List (List ℕ)) (T : ℕ → Legs) (k m : ℕ) → k < g.nodes → k ≤ m →
+      slice_index_or own (slice_index order k) [] ≡ slice_index_or rows (slice_index order k) [] → (metric : List (List Leg)) →
+      IsMetric g.nodes order own (λ i. T (min i m)) metric →
+      HasLegs (T k (slice_index order k)) (slice_index_or rows (slice_index order k) []) (row metric (slice_index order k))
+  taken_legs own T k m lt le whole metric are =
+      let e : min k m ≡ k = omega arith in
+      subst (λ z. HasLegs (T k (slice_index order k)) z (row metric (slice_index order k))) whole
+      (subst (λ z. HasLegs (T z (slice_index order k)) (slice_index_or own (slice_index order k) [])
+      (row metric (slice_index order k))) e (are.each k lt))
 
-  module _ (k : ℕ) (lt : k < g.nodes) (ups downs : List (List Leg)) (are : AreMetricsAt g order rows k ups downs) where
-    -- the legs of the node that is taken
-    pub ups_now : HasLegs (legs_after g order k (slice_index order k)) (slice_index_or rows (slice_index order k) [])
-        (row ups (slice_index order k))
-    ups_now = let e : min k k ≡ k = omega arith in
-        subst (λ z. HasLegs (legs_after g order z (slice_index order k)) (slice_index_or rows (slice_index order k) [])
-        (row ups (slice_index order k))) e (are.0.each k lt)
+  -- one more step, in the other direction
+  turned_step : (k x w : ℕ) → x ≢ slice_index order k → w ≢ slice_index order k → x ≢ w →
+      turned_legs (legs_after g order (k + 1)) x w ≡ leg_over_at g.nodes (slice_index order k) (turned_legs (legs_after g order k)) x w
+  turned_step k x w nx nw ne =
+      step k w x ∙ lowered_at g.nodes (legs_after g order k) (slice_index order k) w x nw nx (λ e. ne (sym e))
+      ∙ over_turned g.nodes (slice_index order k) (legs_after g order k w (slice_index order k))
+      (legs_after g order k (slice_index order k) x) (legs_after g order k w x)
 
-    pub downs_now : HasLegs (λ x. legs_after g order k x (slice_index order k)) (slice_index_or rows (slice_index order k) [])
-        (row downs (slice_index order k))
-    downs_now = let e : min k k ≡ k = omega arith in
-        subst (λ z. HasLegs (λ x. legs_after g order z x (slice_index order k)) (slice_index_or rows (slice_index order k) [])
-        (row downs (slice_index order k))) e (are.1.each k lt)
+  -- one more step
+  straight_step : (k x w : ℕ) → x ≢ slice_index order k → w ≢ slice_index order k → x ≢ w →
+      legs_after g order (k + 1) x w ≡ leg_over_at g.nodes (slice_index order k) (legs_after g order k) x w
+  straight_step k x w nx nw ne = step k x w ∙ lowered_at g.nodes (legs_after g order k) (slice_index order k) x w nx nw ne
 
-    -- both rows have the same nodes
-    pub same_ends : map (λ l. l.node) (row downs (slice_index order k)) ≡ map (λ l. l.node) (row ups (slice_index order k))
-    same_ends = downs_now.ends ∙ sym ups_now.ends
+  module _ (own : List (List ℕ)) (part : AreRowsIn g order own) where
+    -- the rows of the arrays lead to higher places
+    higher_own : AreHigher g.nodes order own
+    higher_own = subst (λ n. AreHigher n order own) part.size part.sound.higher
 
-    -- the node of each leg is in the row of the topology
-    pub of_topology : (legs : List Leg) → map (λ l. l.node) legs ≡ slice_index_or rows (slice_index order k) [] → (l : Leg) →
-        Contains legs l → Contains (slice_index_or rows (slice_index order k) []) l.node
-    of_topology legs ends l c = subst (λ (z : List ℕ). Contains z l.node) ends (contains_map node_of legs l c)
+    -- the row of a node that is in the row of another is in order and can be added up
+    ready_row : (T : ℕ → Legs) (metric : List (List Leg)) → IsMetric g.nodes order own T metric → (k w : ℕ) → k < g.nodes →
+        Contains (slice_index_or rows (slice_index order k) []) w →
+        (w < length metric) × IsRow (row metric w) × All IsHeld (row metric w)
+    ready_row T metric are k w lt c =
+        let h = higher k w lt c in
+        let size = are.size in
+        let count = nodes.count in
+        let within = nodes.within h.0 (omega (arith, h.2)) in
+        let has = are.each h.0 h.2 in
+        subst (λ z. (z < length metric) × IsRow (row metric z) × All IsHeld (row metric z)) h.3
+        (omega arith, ordered_row _ _ has.ends (part.sound.ordered (slice_index order h.0)), has.held)
 
-    -- the arrays after the step
-    pub keeps_ups : (new : List (List Leg)) →
-        AreRelaxed g.nodes (slice_index order k) (row downs (slice_index order k)) (row ups (slice_index order k)) ups new →
-        IsMetric g.nodes order rows (λ i. legs_after g order (min i (k + 1))) new
-    keeps_ups new relaxed = relaxing_keeps_metrics g.nodes order rows (legs_after g order) k _ _ ups new lt single higher
-        (λ x w nx nw ne. step k x w ∙ lowered_at g.nodes (legs_after g order k) (slice_index order k) x w nx nw ne)
-        (none_out k lt) downs_now ups_now are.0 relaxed
-
-    pub keeps_downs : (new : List (List Leg)) →
-        AreRelaxed g.nodes (slice_index order k) (row ups (slice_index order k)) (row downs (slice_index order k)) downs new →
-        IsMetric g.nodes order rows (λ i. turned_legs (legs_after g order (min i (k + 1)))) new
-    keeps_downs new relaxed =
-        relaxing_keeps_metrics g.nodes order rows (λ i. turned_legs (legs_after g order i)) k _ _ downs new lt single higher
-        (λ x w nx nw ne. step k w x ∙ lowered_at g.nodes (legs_after g order k) (slice_index order k) w x nw nx (λ e. ne (sym e))
-        ∙ over_turned g.nodes (slice_index order k) (legs_after g order k w (slice_index order k))
-        (legs_after g order k (slice_index order k) x) (legs_after g order k w x))
-        (λ i past below not. let none = none_out k lt i past below not in (none.1, none.0)) ups_now downs_now are.1 relaxed
-
-  module _ (k : ℕ) (below : k < length order) (ups downs : List (List Leg)) (are : AreMetricsAt g order rows k ups downs)
-      (ins outs : List Leg)
-      (ei : ins ≡ row downs (slice_index order k)) (eo : outs ≡ row ups (slice_index order k)) where
-    -- the place is one of the nodes
-    place_within : k < g.nodes
-    place_within = let count = nodes.count in omega arith
-
-    -- the legs to the node and from it
-    ins_now : HasLegs (λ x. legs_after g order k x (slice_index order k)) (slice_index_or rows (slice_index order k) []) ins
-    ins_now = subst (HasLegs (λ x. legs_after g order k x (slice_index order k)) (slice_index_or rows (slice_index order k) [])) (sym ei)
-        (downs_now k place_within ups downs are)
-
-    outs_now : HasLegs (legs_after g order k (slice_index order k)) (slice_index_or rows (slice_index order k) []) outs
-    outs_now = subst (HasLegs (legs_after g order k (slice_index order k)) (slice_index_or rows (slice_index order k) [])) (sym eo)
-        (ups_now k place_within ups downs are)
-
-    -- what a step needs of them
-    pub ins_ready : IsRow ins × All IsHeld ins
-    ins_ready = (ordered_row ins _ ins_now.ends (ready.sound.ordered (slice_index order k)), ins_now.held)
-
-    pub outs_ready : IsRow outs × All IsHeld outs
-    outs_ready = (ordered_row outs _ outs_now.ends (ready.sound.ordered (slice_index order k)), outs_now.held)
-
-    -- what a step needs of the rows of their nodes
-    pub ups_ready : (l : Leg) → Contains outs l → (l.node < length ups) × IsRow (row ups l.node) × All IsHeld (row ups l.node)
-    ups_ready l c = ready_row _ ups are.0 k l.node place_within (of_topology k place_within ups downs are outs outs_now.ends l c)
-
-    pub downs_ready : (l : Leg) → Contains ins l → (l.node < length downs) × IsRow (row downs l.node) × All IsHeld (row downs l.node)
-    downs_ready l c = ready_row _ downs are.1 k l.node place_within (of_topology k place_within ups downs are ins ins_now.ends l c)
-
-    -- the arrays after a step
-    pub step_keeps : (n : ℕ) → n ≡ g.nodes → (new_ups new_downs : List (List Leg)) →
-        AreRelaxed n (slice_index order k) ins outs ups new_ups → AreRelaxed n (slice_index order k) outs ins downs new_downs →
-        AreMetricsAt g order rows (k + 1) new_ups new_downs
-    step_keeps n same new_ups new_downs up down = (
-      keeps_ups k place_within ups downs are new_ups
-          (subst (λ z. AreRelaxed z (slice_index order k) (row downs (slice_index order k)) (row ups (slice_index order k)) ups new_ups)
-          same (subst (λ z. AreRelaxed n (slice_index order k) (row downs (slice_index order k)) z ups new_ups) eo
-          (subst (λ z. AreRelaxed n (slice_index order k) z outs ups new_ups) ei up))),
-      keeps_downs k place_within ups downs are new_downs
-          (subst (λ z. AreRelaxed z (slice_index order k) (row ups (slice_index order k))
-          (row downs (slice_index order k)) downs new_downs) same
-          (subst (λ z. AreRelaxed n (slice_index order k) (row ups (slice_index order k)) z downs new_downs) ei
-          (subst (λ z. AreRelaxed n (slice_index order k) z ins downs new_downs) eo down))),
+    -- a step that lowers no row of the arrays keeps them
+    pub step_passed : (k : ℕ) → k < g.nodes →
+        ((i x : ℕ) → k < i → i < g.nodes → Contains (slice_index_or own (slice_index order i) []) x →
+        Contains (slice_index_or rows (slice_index order k) []) (slice_index order i) → ⊥) →
+        (ups downs : List (List Leg)) → AreMetricsAt g order own k ups downs → AreMetricsAt g order own (k + 1) ups downs
+    step_passed k lt passes ups downs are = (
+      passed g.nodes order rows own (legs_after g order) k single higher_own (straight_step k) (none_out k lt) passes ups are.0,
+      passed g.nodes order rows own (λ i. turned_legs (legs_after g order i)) k single higher_own (turned_step k)
+          (λ i past below not. let none = none_out k lt i past below not in (none.1, none.0)) passes downs are.1,
     )
+
+    module _ (k : ℕ) (below : k < length order) (ups downs : List (List Leg)) (are : AreMetricsAt g order own k ups downs)
+        (ins outs : List Leg)
+        (ins_now : HasLegs (λ x. legs_after g order k x (slice_index order k)) (slice_index_or rows (slice_index order k) []) ins)
+        (outs_now : HasLegs (legs_after g order k (slice_index order k)) (slice_index_or rows (slice_index order k) []) outs) where
+      -- the place is one of the nodes
+      place_within : k < g.nodes
+      place_within = let count = nodes.count in omega arith
+
+      -- the node of each leg is in the row of the topology
+      of_topology : (legs : List Leg) → map (λ l. l.node) legs ≡ slice_index_or rows (slice_index order k) [] → (l : Leg) →
+          Contains legs l → Contains (slice_index_or rows (slice_index order k) []) l.node
+      of_topology legs ends l c = subst (λ (z : List ℕ). Contains z l.node) ends (contains_map node_of legs l c)
+
+      -- what a step needs of the legs of the node
+      pub ins_ready : IsRow ins × All IsHeld ins
+      ins_ready = (ordered_row ins _ ins_now.ends (ready.sound.ordered (slice_index order k)), ins_now.held)
+
+      pub outs_ready : IsRow outs × All IsHeld outs
+      outs_ready = (ordered_row outs _ outs_now.ends (ready.sound.ordered (slice_index order k)), outs_now.held)
+
+      -- what a step needs of the rows of their nodes
+      pub ups_ready : (l : Leg) → Contains outs l → (l.node < length ups) × IsRow (row ups l.node) × All IsHeld (row ups l.node)
+      ups_ready l c = ready_row _ ups are.0 k l.node place_within (of_topology outs outs_now.ends l c)
+
+      pub downs_ready : (l : Leg) → Contains ins l → (l.node < length downs) × IsRow (row downs l.node) × All IsHeld (row downs l.node)
+      downs_ready l c = ready_row _ downs are.1 k l.node place_within (of_topology ins ins_now.ends l c)
+
+      -- the arrays after the step
+      keeps_ups : (new : List (List Leg)) → AreRelaxed g.nodes (slice_index order k) ins outs ups new →
+          IsMetric g.nodes order own (λ i. legs_after g order (min i (k + 1))) new
+      keeps_ups new relaxed =
+          keeps_metric g.nodes order rows own (legs_after g order) k ins outs ups new place_within single higher higher_own
+          (straight_step k) (none_out k place_within) ins_now outs_now are.0 relaxed
+
+      keeps_downs : (new : List (List Leg)) → AreRelaxed g.nodes (slice_index order k) outs ins downs new →
+          IsMetric g.nodes order own (λ i. turned_legs (legs_after g order (min i (k + 1)))) new
+      keeps_downs new relaxed =
+          keeps_metric g.nodes order rows own (λ i. turned_legs (legs_after g order i)) k outs ins downs new place_within single higher
+          higher_own (turned_step k)
+          (λ i past under not. let none = none_out k place_within i past under not in (none.1, none.0)) outs_now ins_now are.1 relaxed
+
+      pub step_keeps : (n : ℕ) → n ≡ g.nodes → (new_ups new_downs : List (List Leg)) →
+          AreRelaxed n (slice_index order k) ins outs ups new_ups → AreRelaxed n (slice_index order k) outs ins downs new_downs →
+          AreMetricsAt g order own (k + 1) new_ups new_downs
+      step_keeps n same new_ups new_downs up down = (
+        keeps_ups new_ups (subst (λ z. AreRelaxed z (slice_index order k) ins outs ups new_ups) same up),
+        keeps_downs new_downs (subst (λ z. AreRelaxed z (slice_index order k) outs ins downs new_downs) same down),
+      )

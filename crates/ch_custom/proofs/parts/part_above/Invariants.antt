@@ -1,0 +1,8 @@
+-- The nodes before this place are in the rest, or in the part.
+use Rattle.std.proofs.Common.{◌≡◌, ℕ, ◌<◌, ◌≤◌, length}
+use Rattle.std.specs.Prelude.{◌⊎◌, slice_index}
+use Rattle.ch_custom.proofs.parts.part_above.Given as goal
+
+abbrev pub invariant-loop-place : goal.invariant-loop-place
+invariant-loop-place l = (l.part ≤ l.rest) × ((k : ℕ) → k < l.place → k < length l.row →
+    (slice_index l.parts (slice_index l.row k) ≡ l.rest) ⊎ (slice_index l.parts (slice_index l.row k) ≡ l.part))
