@@ -1,12 +1,13 @@
 -- Arrays of legs before the first step, and after the last.
-use Rattle.std.specs.Prelude.{◌≡◌, ℕ, ◌+◌, ◌<◌, ◌≤◌, ◌⊎◌, ◌==◌, ◌&&◌, nat_le, nat_lt, Bool, if◌then◌else◌, List, map, slice_index}
+use Rattle.std.specs.Prelude.{◌≡◌, ℕ, ◌+◌, ◌<◌, ◌≤◌, ◌⊎◌, ◌==◌, ◌&&◌, nat_le, nat_lt, Bool, if◌then◌else◌, List, map, filter, slice_index}
 use Rattle.std.specs.Prelude.{slice_set, None}
 use Rattle.ch_graph.specs.declared.limits.TheConstants.{MOST_WEIGHT}
 use Rattle.ch_graph.specs.declared.arc.InArc.{InArc}
+use Rattle.ch_graph.specs.Graph.{Network}
 use Rattle.ch_hierarchy.specs.declared.leg.Leg.{Leg}
 use Rattle.ch_hierarchy.specs.Rows.{row}
 use Rattle.ch_contract.specs.Legs.{Legs, arc_label_of, least_weight, turned_legs}
-use Rattle.ch_custom.specs.Topologies.{IsMetric}
+use Rattle.ch_custom.specs.Topologies.{IsMetric, AreMetricsAt}
 
 -- the place of a node without a leg
 abbrev pub no_leg : ℕ → Leg
@@ -37,3 +38,11 @@ IsPut levels a ups downs new_ups new_downs =
     × (new_ups ≡ slice_set ups a.from (map (lightened a.to a.weight) (row ups a.from))) × (new_downs ≡ downs))
     ⊎ ((slice_index levels a.to ≤ slice_index levels a.from) × (new_ups ≡ ups)
     × (new_downs ≡ slice_set downs a.to (map (lightened a.from a.weight) (row downs a.to))))
+
+-- these are the legs of arrays from which all nodes are taken, without the places that have none
+pub record AreLegsOfMetric (g : Network) (order : List ℕ) (rows : List (List ℕ)) (rows_up rows_down : List (List Leg)) : Type 0 where
+  pub ups : List (List Leg)
+  pub downs : List (List Leg)
+  pub metric : AreMetricsAt g order rows g.nodes ups downs
+  pub up : rows_up ≡ map (λ r. filter is_live r) ups
+  pub down : rows_down ≡ map (λ r. filter is_live r) downs

@@ -1,11 +1,11 @@
 //! Customization: the legs of a topology, lowered over one node after the other.
-ghost use Rattle.std.specs.Prelude.{◌≡◌, ◌+◌, ◌<◌, OnOk, IfOk, filter, length, map};
+ghost use Rattle.std.specs.Prelude.{◌≡◌, ◌+◌, ◌<◌, OnOk, IfOk, length, map};
 ghost use Rattle.ch_hierarchy.specs.Kept.{IsKept};
 ghost use Rattle.ch_hierarchy.specs.Saved.{AreLevelsOf};
 ghost use Rattle.ch_hierarchy.specs.declared.side.Side.TheVariants.{Up, Down};
 ghost use Rattle.ch_custom.specs.Customizing.{IsTopology};
 ghost use Rattle.ch_custom.specs.LegPairs.{no_pair, rows_at};
-ghost use Rattle.ch_custom.specs.Opening.{IsPut, is_live};
+ghost use Rattle.ch_custom.specs.Opening.{IsPut, AreLegsOfMetric};
 ghost use Rattle.ch_custom.specs.Pruning.{IsArcPut};
 ghost use Rattle.ch_custom.specs.Parts.{AreTakenAt};
 ghost use Rattle.ch_custom.specs.Topologies.{AreRowsIn, AreFor, AreMetricsAt, IsCustomized};
@@ -86,7 +86,7 @@ fn customize_over_by<R: Threads + Sync, G: Gate>(
     ensures kept { IfOk result (IsKept graph.now) }
 {
     let metric = lowered_by(crew, graph, order, levels, rows)?;
-    close(crew.alloc, graph, order, levels, rows, &metric)
+    close(crew.alloc, graph, order, levels, rows, metric)
 }
 
 /// Returns the legs of the graph over these rows of a topology, lowered over all nodes, by all workers if there are enough
@@ -133,7 +133,7 @@ fn customize_over(
     ensures kept { IfOk result (IsKept graph.now) }
 {
     let metric = lowered(alloc, graph, order, levels, rows)?;
-    close(alloc, graph, order, levels, rows, &metric)
+    close(alloc, graph, order, levels, rows, metric)
 }
 
 /// Returns the legs of the graph over these rows of a topology, lowered over all nodes.
@@ -157,30 +157,29 @@ pub(crate) fn lowered(
     Ok(metric)
 }
 
-/// Returns the hierarchy of the legs in these arrays.
+/// Returns the hierarchy of the legs in these arrays, which are gone before the legs are put in order of rank.
 fn close(
     alloc: Global,
     graph: &Graph,
     order: &[u32],
     levels: &[u32],
     rows: &Rows<u32>,
-    metric: &Metric,
+    metric: Metric,
 ) -> Result<Hierarchy, AllocError>
     requires ready { AreFor graph.now order.now rows.now }
     requires levels { AreLevelsOf order.now levels.now }
-    requires metric { AreMetricsAt graph.now order.now rows.now graph.now.nodes (rows_at Up metric.now) (rows_at Down metric.now) }
+    requires metric { AreMetricsAt graph.now order.now rows.now graph.now.nodes (rows_at Up metric) (rows_at Down metric) }
     ensures hierarchy { IfOk result (IsCustomized graph.now order.now) }
     ensures kept { IfOk result (IsKept graph.now) }
 {
     let copied = Vec::from_slice(alloc, levels)?;
     let rows_up = metric.legs(alloc, Side::Up)?;
     let rows_down = metric.legs(alloc, Side::Down)?;
-    closed(
-        alloc, graph, order, rows, copied, rows_up, rows_down, metric,
-    )
+    drop(metric);
+    closed(alloc, graph, order, rows, copied, rows_up, rows_down)
 }
 
-/// Returns the hierarchy of these rows, which are the legs in the arrays.
+/// Returns the hierarchy of these rows, which are the legs of arrays.
 fn closed(
     alloc: Global,
     graph: &Graph,
@@ -189,13 +188,10 @@ fn closed(
     levels: Vec<u32>,
     rows_up: Lists<Leg>,
     rows_down: Lists<Leg>,
-    _metric: &Metric,
 ) -> Result<Hierarchy, AllocError>
     requires ready { AreFor graph.now _order.now _rows.now }
     requires levels { AreLevelsOf _order.now levels.items }
-    requires metric { AreMetricsAt graph.now _order.now _rows.now graph.now.nodes (rows_at Up _metric.now) (rows_at Down _metric.now) }
-    requires up { rows_up ≡ map (λ r. filter is_live r) (rows_at Up _metric.now) }
-    requires down { rows_down ≡ map (λ r. filter is_live r) (rows_at Down _metric.now) }
+    requires rows { AreLegsOfMetric graph.now _order.now _rows.now rows_up rows_down }
     ensures hierarchy { IfOk result (IsCustomized graph.now _order.now) }
     ensures kept { IfOk result (IsKept graph.now) }
 {
