@@ -1,12 +1,14 @@
-//! Nested dissection orders.
+//! Nested dissection orders, and customization in them by workers.
 ghost use Rattle.std.specs.Prelude.{◌≤◌};
 ghost use Rattle.ch_work.specs.declared.limits.TheConstants.{MOST_WORKERS};
 
 use crate::again::{again, again_after};
 use crate::crew::crew;
+use ch_custom::{customize_by, topology_of};
 use ch_dissect::dissect;
 use ch_graph::{Graph, InArc};
 use ch_read::{ReadError, read_graph};
+use ch_text::save_text;
 use ch_work::{Open, Plan};
 use std::alloc::{AllocError, Global};
 use std::test::Fail;
@@ -110,5 +112,42 @@ fn workers_find_one_order(rt: HostRuntime) -> Result<(), Fail> {
     let shared = dissected(&rt, rt.alloc(), 3, &grid)?;
     assert_eq!(rt; alone.len(), 4225);
     assert!(rt; shared.as_slice() == alone.as_slice());
+    Ok(())
+}
+
+/// Returns the text of the hierarchy that so many workers customize in this order.
+fn customized<R: Threads + Sync>(
+    rt: &R,
+    alloc: Global,
+    workers: u32,
+    graph: &Graph,
+    order: &[u32],
+) -> Result<Vec<u8>, AllocError>
+    requires { (1 ≤ workers) × (workers ≤ MOST_WORKERS) }
+{
+    let plan = Plan::new(workers, 1, 1);
+    match topology_of(alloc, graph, order, u64::MAX) {
+        Ok(topology) => {
+            let crew = crew(rt, alloc, &plan, &Open);
+            let hierarchy = customize_by(&crew, &topology, graph)?;
+            save_text(alloc, &hierarchy)
+        }
+        Err(_) => Err(AllocError),
+    }
+}
+
+/// A grid has enough nodes to be shared. The number of workers changes nothing.
+#[test]
+fn workers_customize_one_hierarchy(rt: HostRuntime) -> Result<(), Fail> {
+    let alloc = rt.alloc();
+    let Ok(grid) = Graph::new(4225, grid_arcs(alloc, 65)?) else {
+        return Err(Fail::from(AllocError));
+    };
+    let order = dissected(&rt, alloc, 1, &grid)?;
+    let alone = customized(&rt, alloc, 1, &grid, order.as_slice())?;
+    for workers in [2, 3, 9] {
+        let shared = customized(&rt, alloc, workers, &grid, order.as_slice())?;
+        assert!(rt; shared.as_slice() == alone.as_slice());
+    }
     Ok(())
 }
