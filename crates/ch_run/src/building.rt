@@ -14,7 +14,7 @@ ghost use Rattle.ch_run.specs.Source.{IsBuiltToSave, IsInPlaceOf};
 
 use crate::plan::{Crew, Gate, Stage};
 use ch_contract::{Hierarchy, HopBound, OrderBy, Percent};
-use ch_custom::{TRIANGLES_A_NODE, TopologyError, customize, topology_of};
+use ch_custom::{TRIANGLES_A_NODE, TopologyError, customize_by, topology_of};
 use ch_dissect::dissect;
 use ch_graph::Graph;
 use ch_job::Options;
@@ -116,7 +116,7 @@ pub(crate) fn customize_in<R: Threads + Sync, G: Gate>(
         Ok(topology) => {
             // This call tells the proof that the order has each node once.
             let _order = topology.order();
-            let hierarchy = customize(crew.alloc, &topology, graph)?;
+            let hierarchy = customize_by(crew, &topology, graph)?;
             Ok(hierarchy)
         }
         Err(TopologyError::Triangles) => {
