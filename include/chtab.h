@@ -86,7 +86,8 @@ typedef enum chtab_status {
     CHTAB_SUM_TOO_LARGE = 12, /* a sum is 2^64 or more, or a flow is more than 2^63 */
     CHTAB_OTHER_NODES = 13, /* the graph has another number of nodes than the network in whose order it is built */
     CHTAB_FRESH_RANGE = 14, /* more than 100 per cent of the nodes would be ordered afresh */
-    CHTAB_TRIANGLES = 15    /* the topology would have more than 40 triangles a node: customization would not pay */
+    CHTAB_TRIANGLES = 15,   /* the topology would have more than 40 triangles a node: customization would not pay */
+    CHTAB_NO_VALUES = 16    /* the handle keeps no values of lines: give it some with chtab_keep_values */
 } chtab_status;
 
 /* The kind of a fault. The first ten are faults of a line or of the end of a file, the others of a hierarchy for its graph.
@@ -112,8 +113,8 @@ typedef enum chtab_fault_kind {
     CHTAB_FAULT_LOWER = 17   /* place: a node with a way through it that is shorter than each other way in the hierarchy */
 } chtab_fault_kind;
 
-/* A network, with room for one question at a time, and the near places that it keeps: 16 bytes. Only the library reads and
- * writes its members. */
+/* A network, with room for one question at a time, and the near places and the values that it keeps: 16 bytes. Only the library
+ * reads and writes its members. */
 typedef struct chtab {
     uint64_t is_open;
     void *engine;
@@ -187,7 +188,8 @@ uint32_t chtab_open_like(chtab *handle, const uint8_t *graph, size_t graph_len, 
                          chtab_fault *fault);
 
 /* Opens the closed handle `other` in the network of the open handle `handle`, for another thread. No other call may use one
- * of the two handles meanwhile. The network is freed with the last handle that shares it. Near places are not shared.
+ * of the two handles meanwhile. The network is freed with the last handle that shares it, and so are the values that `handle`
+ * keeps, which both share from then on. Near places are not shared.
  * Errors: CHTAB_IS_OPEN for `other`, CHTAB_CLOSED for `handle`, CHTAB_NO_MEMORY. */
 uint32_t chtab_share(chtab *handle, chtab *other);
 
@@ -299,13 +301,28 @@ uint32_t chtab_route_sums(chtab *handle, const uint32_t *sources, size_t sources
 /* Writes the weights and the sums of a table, and the number of cells to `cells`. The route from sources[i] to targets[j] has
  * its weight in weights[i * targets_len + j], and the sum of the values on the lines of its arcs at the same place of `sums`,
  * both as chtab_route_sums gives them. weights_len and sums_len are sources_len times targets_len, and values_len is the number
- * of arcs of the graph's file. The call takes one search for each source and each target. It keeps a copy of the values with the
- * handle, and a word for each leg of the hierarchy: the first call with other values takes longer.
+ * of arcs of the graph's file. The call takes one search for each source and each target. It has a copy of the values with the
+ * handle, and a word for each leg of the hierarchy: the first call with other values takes longer. Each call compares all values
+ * with these, which takes most of the time of a small table: chtab_kept_table_sums does not.
  * Errors: CHTAB_CLOSED, CHTAB_LENGTHS, CHTAB_NODE_RANGE. With CHTAB_SUM_TOO_LARGE or CHTAB_NO_MEMORY the first cells are written,
  * row after row, and `cells` is their number: the sum of the next cell is 2^64 or more, or there is no memory for it. */
 uint32_t chtab_table_sums(chtab *handle, const uint32_t *sources, size_t sources_len, const uint32_t *targets,
                           size_t targets_len, const uint64_t *values, size_t values_len, uint64_t *cells,
                           uint64_t *weights, size_t weights_len, uint64_t *sums, size_t sums_len);
+
+/* Keeps a copy of a value for each line with the handle, in place of the values that it kept: values[j] is the value of line j,
+ * and values_len is the number of arcs of the graph's file. The call takes some steps for each leg of the hierarchy, and keeps a
+ * word for each. With the values that are kept already it compares them alone. You may free the values afterwards.
+ * Errors: CHTAB_CLOSED, CHTAB_LENGTHS, CHTAB_NO_MEMORY. Then the values that were kept stay. */
+uint32_t chtab_keep_values(chtab *handle, const uint64_t *values, size_t values_len);
+
+/* Writes what chtab_table_sums writes for the values that chtab_keep_values keeps. A small table takes little more time than
+ * with chtab_table, on a network of any size.
+ * Errors: CHTAB_CLOSED, CHTAB_NO_VALUES, CHTAB_LENGTHS, CHTAB_NODE_RANGE. With CHTAB_SUM_TOO_LARGE or CHTAB_NO_MEMORY the first
+ * cells are written, as with chtab_table_sums. */
+uint32_t chtab_kept_table_sums(chtab *handle, const uint32_t *sources, size_t sources_len, const uint32_t *targets,
+                               size_t targets_len, uint64_t *cells, uint64_t *weights, size_t weights_len, uint64_t *sums,
+                               size_t sums_len);
 
 /* Writes flows on the lines of the graph's file, and the number of pairs without a walk to `missed`. demands[i] is what goes
  * from sources[i] to targets[i], and flows[l] is the sum of the demands of the pairs whose routes take the arc on line l. Lines
@@ -394,6 +411,7 @@ CHTAB_INLINE const char *chtab_strerror(uint32_t status) {
     case CHTAB_OTHER_NODES: return "another number of nodes";
     case CHTAB_FRESH_RANGE: return "more than 100 per cent afresh";
     case CHTAB_TRIANGLES: return "too many triangles";
+    case CHTAB_NO_VALUES: return "no values of lines are kept";
     }
     return "unknown status";
 }

@@ -336,6 +336,39 @@ def refuse_large_table_sums(tally, library):
     library.close(handle)
 
 
+def refuse_kept_sums(tally, library):
+    """Values stay until others are kept, whatever is refused, and whatever other handles keep. Kept values come before lengths, and lengths before nodes."""
+    status, handle, _ = library.open(LINE, OF_LINE)
+    asked, half, other = ([0, 2], [1, 2]), 2**63, Handle()
+    owed = 0, 4, [4, 9, NO_DISTANCE, 0], [half, 2**64 - 1, 0, 0]
+    tally.expect(library.kept_table_sums(handle, [9], [0], 2, 1) == (STATUS["NO_VALUES"], 7, [7, 7], [7]), "no values are kept")
+    for values, name in ([half, half - 1], "OK"), ([1], "LENGTHS"), ([1, 1, 1], "LENGTHS"), ([], "LENGTHS"), ([half, half - 1], "OK"):
+        tally.expect(library.keep_values(handle, values) == STATUS[name], f"values {values} that are to be kept")
+        told = library.kept_table_sums(handle, *asked)
+        tally.expect(told == owed, f"the sums of kept values, after {values}: {told}")
+        tally.expect(library.table_sums(handle, *asked, [1, 2]) == (0, 4, owed[2], [1, 3, 0, 0]), "the sums of other values")
+    for sources, targets, rooms, name in (
+        ([9], [0], (1, 2), "LENGTHS"), ([9], [0], (2, 1), "LENGTHS"), ([3], [0], (1, 1), "NODE_RANGE"), ([0], [3], (1, 1), "NODE_RANGE"),
+        ([], [0], (0, 0), "OK"), ([0], [], (0, 0), "OK"),
+    ):
+        told = library.kept_table_sums(handle, sources, targets, *rooms)
+        tally.expect(told == (STATUS[name], 7 if STATUS[name] else 0, [7] * rooms[0], [7] * rooms[1]), f"sums of kept values {sources} {targets}: {told}")
+    tally.expect(library.share(handle, other) == 0 and library.kept_table_sums(other, *asked) == owed, "a second handle has the values of the first")
+    tally.expect(library.keep_values(handle, [half, half]) == 0, "values in place of others")
+    told = library.kept_table_sums(handle, [1, 0], [1, 2])
+    tally.expect(told == (STATUS["SUM_TOO_LARGE"], 3, [0, 5, 4, 7], [0, half, half, 7]), f"a sum of kept values that is too large: {told}")
+    tally.expect(library.close(handle) == 0 and library.kept_table_sums(other, *asked) == owed, "the second handle keeps them when the first closes")
+    tally.expect(library.open(LINE, OF_LINE, handle)[0] == 0 and library.kept_table_sums(handle, [0], [1])[0] == STATUS["NO_VALUES"], "an opened handle keeps no values")
+    tally.expect(library.keep_values(Handle(), [1, 1]) == STATUS["CLOSED"], "values for a closed handle")
+    tally.expect(library.kept_table_sums(Handle(), [9], [1], 2) == (STATUS["CLOSED"], 7, [7, 7], [7]), "sums of kept values by a closed handle")
+    status, topology, _ = library.topology_open(LINE)
+    new = library.customized(topology, [7, 1])[1]
+    tally.expect(library.kept_table_sums(new, [0], [1])[0] == STATUS["NO_VALUES"], "a customized network keeps no values")
+    told = library.keep_values(new, [3, 4]), library.kept_table_sums(new, [0], [2]), library.kept_table_sums(other, *asked)
+    tally.expect(told == (0, (0, 1, [8], [7]), owed), f"values of two networks: {told}")
+    tally.expect([library.close(each) for each in (handle, other, new)] == [0] * 3 and library.topology_close(topology) == 0, "handles with values close")
+
+
 def refuse_large_flows(tally, library):
     """A flow of more than 2^63 refuses all flows, also after others were given, and 2^63 is given. Lengths come before nodes."""
     status, handle, _ = library.open(LINE, OF_LINE)
@@ -503,6 +536,7 @@ def main():
     refuse_cells(tally, library)
     refuse_large_route_sums(tally, library)
     refuse_large_table_sums(tally, library)
+    refuse_kept_sums(tally, library)
     refuse_large_flows(tally, library)
     refuse_quickly(tally, library)
     refuse_likes(tally, library)

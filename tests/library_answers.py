@@ -136,7 +136,29 @@ def compare_table_sums(tally, library, graph, hierarchy):
         tally.expect(told == (0, len(sources), weights, sums), f"{graph.name}: sums along the routes of a table")
         told = library.table_sums(handle, rows, columns, values)
         tally.expect(told == (0, len(sources), weights, sums), f"{graph.name}: a table of sums along routes")
+        told = library.keep_values(handle, values), library.table_sums(handle, rows, columns, second), library.kept_table_sums(handle, rows, columns)
+        tally.expect((told[0], told[2]) == (0, (0, len(sources), weights, sums)), f"{graph.name}: a table of sums of kept values")
     library.close(handle)
+
+
+def compare_random_kept_sums(tally, library):
+    """Random graphs with loops and parallel arcs: tables of the values that are kept are those of these values, by a hierarchy that is built and by one that
+    is customized. Which of equal routes is taken, the library's own routes say."""
+    for seed in range(120):
+        case, draw = Case(f"library kept sums {seed}"), random.Random(f"library kept sums {seed}")
+        every, weights = [*range(case.nodes)], [weight for _, _, weight in case.arcs]
+        pairs = [list(ends) for ends in zip(*itertools.product(every, every))]
+        topology = library.topology_open(graph_text(case.nodes, case.arcs))[1]
+        for handle in library.open_quick(graph_text(case.nodes, case.arcs))[1], *[library.customized(topology, weights)[1]] * bool(topology.is_open):
+            room = len(pairs[0]) * case.nodes
+            _, _, away, ends, _, lines = library.routes(handle, *pairs, room, lines_room=room)
+            owed = [distance for source in every for distance in away_of(case.arcs, [[source] * case.nodes, every])]
+            for values in weights, [draw.randrange(1 << 50) for _ in weights]:
+                sums = [sum(values[line] for line in lines[begin + 1:end]) for begin, end in zip([0, *ends], ends)]
+                told = library.keep_values(handle, values), library.kept_table_sums(handle, every, every)
+                tally.expect(away == owed and told == (0, (0, len(owed), owed, sums)), f"sums of kept values on graph {seed}")
+            tally.expect(library.close(handle) == 0, f"graph {seed} closes")
+        library.topology_close(topology)
 
 
 def compare_flows(tally, library, graph, hierarchy):
@@ -526,6 +548,7 @@ def main():
     compare_bad_orders(tally, library)
     compare_random_arrays(tally, library)
     compare_random_customized(tally, library)
+    compare_random_kept_sums(tally, library)
     tell_lines(tally, library)
     with tempfile.TemporaryDirectory() as kept:
         folder = Path(kept)

@@ -1,5 +1,4 @@
-"""The types of arguments and results, for annotations: `from chtab.typing import Integers`. It
-needs numpy."""
+"""The types of arguments and results, as in `from chtab.typing import Integers`; needs numpy."""
 import os
 from collections.abc import Iterable, Mapping
 from typing import IO, Any, Literal, TypeAlias

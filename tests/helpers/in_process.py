@@ -196,6 +196,15 @@ class Library:
         rooms = [(cells if length is None else length, ctypes.c_uint64) for length in (weights_room, sums_room)]
         return self.many(self.calls.chtab_table_sums, handle, lists, rooms)
 
+    def keep_values(self, handle, values):
+        return self.calls.chtab_keep_values(ctypes.byref(handle), numbers(values, ctypes.c_uint64), ctypes.c_size_t(len(values)))
+
+    def kept_table_sums(self, handle, sources, targets, weights_room=None, sums_room=None):
+        """The same as of `table_sums`, for the values that are kept."""
+        cells = len(sources) * len(targets)
+        rooms = [(cells if length is None else length, ctypes.c_uint64) for length in (weights_room, sums_room)]
+        return self.many(self.calls.chtab_kept_table_sums, handle, [(sources, ctypes.c_uint32), (targets, ctypes.c_uint32)], rooms)
+
     def flows(self, handle, sources, targets, demands, room):
         """The status, the number of pairs without a walk, and the flows."""
         lists = [(sources, ctypes.c_uint32), (targets, ctypes.c_uint32), (demands, ctypes.c_uint64)]

@@ -51,12 +51,17 @@ class Caller:
         self.handles = [Handle(), Handle()]
         # Two topologies of the graph, and the order of each that is open.
         self.topologies, self.orders = [Topology(), Topology()], {}
-        # What each handle keeps: the places, the limit, the count and the direction.
-        self.kept = {}
+        # What each handle keeps: the places, the limit, the count and the direction; and the values.
+        self.kept, self.values = {}, {}
 
     def word(self, source, target, limit=NO_DISTANCE):
         away = self.away[source][target]
         return NO_DISTANCE if away is None or away[0] > limit else away[0]
+
+    def forget(self, handle):
+        """A closed handle keeps nothing."""
+        self.kept.pop(id(handle), None)
+        self.values.pop(id(handle), None)
 
     def expect(self, holds, *told):
         self.tally.expect(holds, told)
@@ -113,7 +118,7 @@ class Caller:
             away = [self.word(source, target) for target in every]
             self.expect(self.library.table(handle, [source], every) == (STATUS["OK"], away), "a table of arrays", source, arrays)
         self.expect(self.library.close(handle) == STATUS["OK"], "closed what was opened of arrays")
-        self.kept.pop(id(handle), None)
+        self.forget(handle)
 
     def open_quick(self):
         """A network of a graph alone, which is changed or not; nothing of it is kept."""
@@ -225,14 +230,14 @@ class Caller:
         owed = [away.get(target + 1, NO_DISTANCE) for target in range(self.count)]
         self.expect(self.library.table(handle, [source], range(self.count)) == (STATUS["OK"], owed), "a table by new weights", source, weights)
         self.expect(self.library.close(handle) == STATUS["OK"], "closed what was customized")
-        self.kept.pop(id(handle), None)
+        self.forget(handle)
 
     def open_or_close(self):
         handle = self.draw.choice(self.handles)
         if self.draw.random() < 0.3:
             wanted = STATUS["OK" if handle.is_open else "CLOSED"]
             self.expect(self.library.close(handle) == wanted and not handle.is_open, "close", wanted)
-            self.kept.pop(id(handle), None)
+            self.forget(handle)
         else:
             wanted = STATUS["IS_OPEN" if handle.is_open else "OK"]
             self.expect(self.library.open(self.graph, self.saved, handle)[0] == wanted and handle.is_open, "open", wanted)
@@ -241,6 +246,8 @@ class Caller:
         handle, other = self.handles if self.draw.random() < 0.5 else self.handles[::-1]
         wanted = STATUS["IS_OPEN" if other.is_open else "OK" if handle.is_open else "CLOSED"]
         self.expect(self.library.share(handle, other) == wanted, "share", wanted)
+        if wanted == STATUS["OK"] and id(handle) in self.values:
+            self.values[id(other)] = self.values[id(handle)]
 
     def ask_nodes(self):
         handle = self.draw.choice(self.handles)
@@ -450,13 +457,44 @@ class Caller:
         if wanted != "OK":
             self.expect(told == (STATUS[wanted], 7, *([7] * length for length in rooms)), "sums along routes", sources, targets, values, wanted, told)
             return
+        owed = self.owed_sums(handle, sources, targets, values)
+        self.expect(told == owed, "sums along routes", sources, targets, values, owed, told)
+
+    def owed_sums(self, handle, sources, targets, values):
+        """The answer to pairs by the lines of their routes."""
         room = len(sources) * self.count
         _, _, weights, ends, _, lines = self.library.routes(handle, sources, targets, room, lines_room=room)
         sums = [sum(values[line] for line in lines[begin + 1:end]) for begin, end in zip([0, *ends], ends)]
         fit = next((place for place, one in enumerate(sums) if one >= 2**64), len(sums))
         left = [7] * (len(sums) - fit)
-        owed = STATUS["SUM_TOO_LARGE" if left else "OK"], fit, [*weights[:fit], *left], [*sums[:fit], *left]
-        self.expect(told == owed, "sums along routes", sources, targets, values, owed, told)
+        return STATUS["SUM_TOO_LARGE" if left else "OK"], fit, [*weights[:fit], *left], [*sums[:fit], *left]
+
+    def keep_values(self):
+        handle = self.draw.choice(self.handles)
+        values = [self.draw.choice((0, 1, 9, 2**62, 2**63)) for _ in range(len(self.arcs) + (self.draw.random() < 0.2))]
+        wanted = "CLOSED" if not handle.is_open else "OK" if len(values) == len(self.arcs) else "LENGTHS"
+        self.expect(self.library.keep_values(handle, values) == STATUS[wanted], "values", values, wanted)
+        if wanted == "OK":
+            self.values[id(handle)] = values
+
+    def ask_kept_sums(self):
+        """A table of the kept values, or of given ones, which does not change what is kept."""
+        handle, sources, targets = self.draw.choice(self.handles), self.nodes(), self.nodes()
+        cells, values = len(sources) * len(targets), self.values.get(id(handle))
+        if self.draw.random() < 0.3:
+            other = [self.draw.choice((0, 1, 9)) for _ in self.arcs]
+            told, wanted = self.library.table_sums(handle, sources, targets, other), "OK" if handle.is_open else "CLOSED"
+            values, rooms = other, [cells, cells]
+        else:
+            rooms = [cells if self.draw.random() < 0.9 else self.draw.randrange(9) for _ in range(2)]
+            told = self.library.kept_table_sums(handle, sources, targets, *rooms)
+            wanted = "CLOSED" if not handle.is_open else "NO_VALUES" if values is None else "OK" if rooms == [cells, cells] else "LENGTHS"
+        if wanted == "OK" and not self.are_nodes(sources, targets):
+            wanted = "NODE_RANGE"
+        owed = STATUS[wanted], 7, *([7] * length for length in rooms)
+        if wanted == "OK":
+            owed = self.owed_sums(handle, [source for source in sources for _ in targets], targets * len(sources), values)
+        self.expect(told == owed, "a table of sums", sources, targets, values, owed, told)
 
     def ask_flows(self):
         """The flows are those on the lines of the routes, which `ask_routes` compares."""
@@ -513,8 +551,9 @@ class Caller:
             self.keep_places, self.sweep, self.ask_near, self.save, self.ask_routes, self.ask_sums, self.open_like,
             self.ask_route_sums, self.ask_flows, self.ask_flows_table, self.open_arrays, self.open_quick,
             self.open_topology, self.share_or_close_topology, self.ask_order, self.customize, self.ask_cells,
+            self.keep_values, self.ask_kept_sums,
         )
-        self.draw.choices(calls, (20, 5, 3, 2, 20, 15, 15, 10, 3, 20, 5, 20, 15, 10, 15, 15, 15, 10, 10, 10, 5, 3, 20, 15))[0]()
+        self.draw.choices(calls, (20, 5, 3, 2, 20, 15, 15, 10, 3, 20, 5, 20, 15, 10, 15, 15, 15, 10, 10, 10, 5, 3, 20, 15, 10, 20))[0]()
 
 
 def memory():

@@ -271,6 +271,46 @@ static uint32_t write_route_sums(void) {
     return status;
 }
 
+/* Where values are refused memory, those before stay: each of them is 1, so that a sum counts the arcs of a route. */
+static void expect_kept(const char *told) {
+    uint64_t cells = 9, weight = 9, sum = 9;
+    long kept = granted;
+    granted = -1;
+    expect(chtab_kept_table_sums(&g.network, g.ends, 1, g.targets, 1, &cells, &weight, 1, &sum, 1) == CHTAB_OK && cells == 1, told);
+    expect(weight == distance_of(g.ends[0], g.targets[0]) && sum == arcs_between(g.ends[0], g.targets[0]), told);
+    granted = kept;
+}
+
+static void keep_ones(void) {
+    uint64_t *ones = (uint64_t *)malloc((g.arcs + 1) * sizeof *ones);
+    size_t k;
+    if (!ones) exit(2);
+    for (k = 0; k < g.arcs; k++) ones[k] = 1;
+    expect(chtab_keep_values(&g.network, ones, g.arcs) == CHTAB_OK, "values of 1");
+    free(ones);
+    expect_kept("the arcs of a route");
+}
+
+static uint32_t keep_weights(void) {
+    uint32_t status = chtab_keep_values(&g.network, g.values, g.arcs);
+    if (status) expect_kept("values stay");
+    return status;
+}
+
+/* Where cells are refused memory, those before are written, and behind them all stays. The values are 1. */
+static uint32_t write_kept_sums(void) {
+    uint64_t cells = 99, weights[64];
+    uint32_t status, k;
+    memset(g.cells, 7, sizeof g.cells);
+    status = chtab_kept_table_sums(&g.network, g.ends, 8, g.targets, 8, &cells, weights, 64, g.cells, 64);
+    granted = -1;
+    expect((status == CHTAB_OK) == (cells == 64) && cells <= 64, "cells before the one that is refused");
+    for (k = 0; k < cells; k++) expect(weights[k] == distance_of(g.ends[k / 8], g.targets[k % 8]), "the weight of a cell");
+    for (k = 0; k < cells; k++) expect(g.cells[k] == arcs_between(g.ends[k / 8], g.targets[k % 8]), "the arcs of a cell");
+    for (; k < 64; k++) expect(g.cells[k] == 0x0707070707070707u, "a sum of kept values stays");
+    return status;
+}
+
 /* Where flows are refused memory, none is written. Each pair has the demand 1, so that the flows count the arcs of all routes. */
 static uint32_t write_flows(void) {
     static const uint64_t demands[8] = {1, 1, 1, 1, 1, 1, 1, 1};
@@ -340,7 +380,7 @@ static uint32_t write_cells(void) {
 }
 
 /* Whether the call goes on without some of its memory, if that request alone is refused. Building does so: it packs its lists of legs, and
- * asks again. So do sums along routes, which then search for each pair. */
+ * asks again. So do sums along routes, which then search for each pair, and keeping values, where a list of nodes grows step by step instead. */
 static int goes_on = 0;
 
 /* Refuses one request more or less each time, until the call meets no refusal. */
@@ -424,7 +464,10 @@ static void refuse_questions(void) {
     read_values();
     goes_on = 1;
     refuse_each(write_route_sums, NULL, "sums along routes");
+    keep_ones();
+    refuse_each(keep_weights, keep_ones, "values");
     goes_on = 0;
+    refuse_each(write_kept_sums, NULL, "sums of kept values");
     g.whole = 0;
     for (k = 0; k < 8; k++) g.whole += arcs_between(g.ends[k], g.targets[k]);
     refuse_each(write_flows, NULL, "flows");

@@ -24,7 +24,7 @@ def test_declarations_are_those_of_the_header():
     """The version, statuses, kinds of faults and sizes; and each call is given as many words as the header says, each of its type."""
     text = HEADER.read_text()
     assert f"#define CHTAB_VERSION {library.VERSION}\n" in text
-    assert all(getattr(library, name) == number for name, number in statuses().items()) and len(statuses()) == 16
+    assert all(getattr(library, name) == number for name, number in statuses().items()) and len(statuses()) == 17
     assert len(re.findall(r"CHTAB_FAULT_\w+ = \d+", text)) == len(library.KINDS)
     for name, kind, size in ("chtab", library.Block, 16), ("chtab_topology", library.TopologyBlock, 16), ("chtab_fault", library.Fault, 24):
         body = re.search(rf"typedef struct {name} \{{(.*?)\}}", text, re.DOTALL).group(1)
@@ -35,7 +35,7 @@ def test_declarations_are_those_of_the_header():
         "size_t ": {ctypes.c_size_t}, "uint32_t ": {ctypes.c_uint32}, "uint64_t ": {ctypes.c_uint64}, "const uint8_t *": {ctypes.c_char_p},
         "const uint32_t *": {column}, "const uint64_t *": {column}, "uint64_t *": {column, rows}, "uint32_t *": {column, one}, "uint8_t *": {column},
     }
-    assert {*library.CALLS, "chtab_version", "chtab_route", "chtab_topology_open"} == declared()
+    assert {*library.CALLS, "chtab_version", "chtab_route", "chtab_topology_open", "chtab_table_sums"} == declared()
     for name, given in library.CALLS.items():
         words = re.search(rf"uint32_t {name}\((.*?)\);", text, re.DOTALL).group(1)
         told = [re.fullmatch(r"(.*?)\w+", " ".join(word.split())).group(1) for word in words.split(",")]
@@ -59,7 +59,7 @@ def test_what_c_would_misread_is_refused():
         for call in *of_nodes, partial(handle.near_rows, pairs=9):
             raises(TypeError, call, wrong)
     for wrong in None, [1, 2], values.astype(numpy.int64), values.astype(float), values.astype(numpy.uint32), values[::-1], values.reshape(1, 2):
-        for call in handle.route_sums, partial(handle.flows, lines=2):
+        for call in handle.route_sums, handle.table_sums, partial(handle.flows, lines=2):
             raises(TypeError, call, right, right, wrong)
     for node in 3, 4, 2**31, 2**32 - 1:
         for call in *of_nodes, lambda nodes: route(handle, nodes[1], 0), lambda nodes: route(handle, 0, nodes[1]):
@@ -87,6 +87,36 @@ def test_what_c_would_misread_is_refused():
     assert handle.distances(many[:0], many[:0]).tolist() == [] and handle.table(many[:0], right).shape == (0, 2)
     for nodes, pairs, owed in (many[:0], 0, [[]] * 3), (right, 2, [[2], [0, 4], [0, 1]]):
         assert [part.tolist() for part in handle.near_rows(nodes, pairs)] == owed
+
+
+def test_a_table_of_sums_is_that_of_the_values_given():
+    """Also of an array that was written to since, of a part of one, and of others behind one that can't change, which is taken once. What is refused
+    leaves right answers, and a shared handle has what the first one keeps."""
+    handle, (sources, targets), own = handle_of(), columns_of([0, 2], [1, 2]), numpy.array([3, 4], numpy.uint64)
+    part, fixed, names = own[:], own.copy(), []
+    part.flags.writeable = fixed.flags.writeable = False
+
+    def sums_of(values, asked=handle):
+        names.clear()
+        with pytest.MonkeyPatch.context() as patch:
+            ask = asked.ask
+            patch.setattr(asked, "ask", lambda call, *given: names.append(call.__name__) or ask(call, *given))
+            weights, sums = asked.table_sums(sources, targets, values)
+        assert weights.tolist() == [[4, 9], [-1, 0]] and sums[1].tolist() == [0, 0] and sums.dtype == numpy.uint64
+        return sums[0].tolist()
+
+    for values, first in (own, 3), (own, 5), (part, 6), (part, 7), (fixed, 3), (own, 8), (fixed, 3), (part, 9):
+        own[0] = first if values is not fixed else own[0]
+        assert sums_of(values) == [first, first + 4] and names == ["chtab_keep_values", "chtab_kept_table_sums"]
+    assert sums_of(fixed) == sums_of(fixed) == [3, 7] and names == ["chtab_kept_table_sums"]
+    assert sums_of(fixed, handle.share()) == [3, 7] and names == ["chtab_kept_table_sums"]
+    for length in 0, 1, 3:
+        raises(ValueError, handle.table_sums, sources, targets, numpy.zeros(length, numpy.uint64), told="lengths")
+        assert sums_of(fixed) == [3, 7]
+    raises(ValueError, handle.table_sums, sources, targets, numpy.array([2**63, 2**63], numpy.uint64), told="2^64 or more")
+    for nodes in columns_of([0, 3], [2**31]):
+        raises(ValueError, handle.table_sums, nodes, targets, fixed, told="not one of the network")
+    assert sums_of(fixed) == [3, 7] and handle.table_sums(sources[:0], targets, own)[1].shape == (0, 2)
 
 
 def test_graphs_that_are_none_are_refused():

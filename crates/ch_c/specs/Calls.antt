@@ -16,7 +16,7 @@ use Rattle.ch_near.specs.declared.direction.Direction.{Direction}
 use Rattle.ch_near.specs.declared.direction.Direction.TheVariants.{To, From}
 use Rattle.ch_engine.specs.declared.written.End.{End}
 use Rattle.ch_engine.specs.declared.written.SumsEnd.{SumsEnd}
-use Rattle.ch_engine.specs.Held.{Held, only, with_places}
+use Rattle.ch_engine.specs.Held.{Held, only, with_places, with_values, without_places}
 use Rattle.ch_engine.specs.Lines.{IsOfSome, Lines}
 use Rattle.ch_engine.specs.NearRows.{AreRowsWritten, StaysFrom, begin_of}
 use Rattle.ch_engine.specs.NearTable.{AreCellsWritten, places_of}
@@ -24,7 +24,7 @@ use Rattle.ch_engine.specs.Opened.{IsOpened, IsOpenedLike, IsOpenedOfArrays, IsO
 use Rattle.ch_engine.specs.Routes.{AreRoutesWritten, IsFound}
 use Rattle.ch_engine.specs.RouteSums.{ArePairSumsWritten}
 use Rattle.ch_engine.specs.Sums.{AreSumsWritten}
-use Rattle.ch_engine.specs.TableSums.{AreTableSumsWritten}
+use Rattle.ch_engine.specs.TableSums.{AreKeptSumsWritten, AreTableSumsWritten}
 use Rattle.ch_engine.specs.Cells.{ArePairCells, AreTableCells, no_distance}
 use Rattle.ch_engine.specs.Refusals.{AreFlowLengths, AreFlowTableLengths, IsRefusalOfFlowTable, IsRefusalOfFlows}
 use Rattle.ch_engine.specs.Refusals.{AreNodes, ArePairs, ArePairSumLengths, ArePlaces, AreRouteLengths, AreRowSources}
@@ -32,11 +32,12 @@ use Rattle.ch_engine.specs.Refusals.{AreSumSources, AreTableLists, IsLikeError, 
 use Rattle.ch_engine.specs.Refusals.{IsRefusalOfPairSums, IsRefusalOfPlaces, IsRefusalOfRoute, IsRefusalOfRoutes, IsRefusalOfRows}
 use Rattle.ch_engine.specs.Refusals.{AreCellSources, AreTableSumLengths, IsRefusalOfCells, IsRefusalOfTableSums}
 use Rattle.ch_engine.specs.Refusals.{IsRefusalOfSums, IsRefusalOfSweep, IsRefusalOfTable, IsArraysOpenError}
+use Rattle.ch_engine.specs.Refusals.{AreKeptSumLists, IsRefusalOfKeptSums, IsRefusalOfValues}
 use Rattle.ch_c.specs.declared.faults.Fault.{Fault}
 use Rattle.ch_c.specs.declared.answers.Found.{Found}
 use Rattle.ch_c.specs.declared.status.TheConstants.{OK, NO_MEMORY, CLOSED, IS_OPEN, NODE_RANGE, LENGTHS, TOO_LARGE, TOO_SHORT}
 use Rattle.ch_c.specs.declared.status.TheConstants.{BAD_GRAPH, BAD_SAVED, WRONG_SAVED, NO_PLACES, SUM_TOO_LARGE, OTHER_NODES}
-use Rattle.ch_c.specs.declared.status.TheConstants.{FRESH_RANGE}
+use Rattle.ch_c.specs.declared.status.TheConstants.{FRESH_RANGE, NO_VALUES}
 
 -- the status of a refusal
 abbrev pub refusal_status : Refusal → ℕ
@@ -45,6 +46,7 @@ refusal_status Refusal.NodeRange = NODE_RANGE
 refusal_status Refusal.Lengths = LENGTHS
 refusal_status Refusal.TooLarge = TOO_LARGE
 refusal_status Refusal.NoPlaces = NO_PLACES
+refusal_status Refusal.NoValues = NO_VALUES
 
 -- the status of an error of opening
 abbrev pub error_status : OpenError → ℕ
@@ -191,12 +193,12 @@ IsOpeningLike graph fresh (Some other) None after fault_before fault status =
     ⊎ ((error : OpenError) × (status ≡ error_status error) × (after ≡ None) × (fault ≡ fault_of error)
     × IsLikeError graph (nodes_of other.hierarchy) fresh error)
 
--- an open handle is not opened again; a closed one gets the network of an open one, without its places, or there is
--- no memory
+-- an open handle is not opened again; a closed one gets the network and the values of an open one, without its places, or
+-- there is no memory
 abbrev pub IsSharing : Option Held → Option Held → Option Held → ℕ → Type 0
 IsSharing network (Some held) after status = (status ≡ IS_OPEN) × (after ≡ Some held)
 IsSharing None None after status = (status ≡ CLOSED) × (after ≡ None)
-IsSharing (Some held) None after status = ((status ≡ OK) × (after ≡ Some (only held.hierarchy held.lines)))
+IsSharing (Some held) None after status = ((status ≡ OK) × (after ≡ Some (without_places held)))
     ⊎ ((status ≡ NO_MEMORY) × (after ≡ None))
 
 -- the direction for a number: to the places for 0, and otherwise from them
@@ -342,6 +344,23 @@ AreTableSumsAnswered held sources targets values before after status =
     ⊎ ((refusal : Refusal) × (status ≡ refusal_status refusal) × (after ≡ before)
     × IsRefusalOfTableSums (nodes_of held.hierarchy) held.lines.count sources targets (length values) (length before.weights)
     (length before.sums) refusal)
+
+-- values of the lines are kept in place of those before, or refused
+abbrev pub AreValuesKept : List ℕ → Held → Option Held → ℕ → Type 0
+AreValuesKept values held after status =
+    ((status ≡ OK) × (length values ≡ held.lines.count) × (after ≡ Some (with_values held values)))
+    ⊎ ((refusal : Refusal) × (status ≡ refusal_status refusal) × (after ≡ Some held)
+    × IsRefusalOfValues held.lines.count (length values) refusal)
+
+-- sums of the kept values along the routes of a table's cells, in the same way
+abbrev pub AreKeptSumsAnswered : Held → List ℕ → List ℕ → PairSumArrays → PairSumArrays → ℕ → Type 0
+AreKeptSumsAnswered held sources targets before after status =
+    ((end : SumsEnd) × (status ≡ sums_status end)
+    × AreKeptSumLists (nodes_of held.hierarchy) held.values sources targets (length before.weights) (length before.sums)
+    × AreKeptSumsWritten held sources targets after.weights after.sums (record { count = after.pairs; end = end })
+    × (StaysFrom after.pairs before.weights after.weights × StaysFrom after.pairs before.sums after.sums))
+    ⊎ ((refusal : Refusal) × (status ≡ refusal_status refusal) × (after ≡ before)
+    × IsRefusalOfKeptSums (nodes_of held.hierarchy) held.values sources targets (length before.weights) (length before.sums) refusal)
 
 -- the status for what became of flows
 abbrev pub flowed_status : Flowed → ℕ

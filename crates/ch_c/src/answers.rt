@@ -1,11 +1,11 @@
 //! The answers of an engine, as C sees them.
 ghost use Rattle.std.specs.Prelude.{◌≡◌, ◌+◌, ◌<◌, [], length, IfErr, IfOk, Option, None, Some};
-ghost use Rattle.ch_engine.specs.Held.{only};
+ghost use Rattle.ch_engine.specs.Held.{KeepsNothing, without_places};
 ghost use Rattle.ch_engine.specs.NearRows.{StaysFrom};
 ghost use Rattle.ch_hierarchy.specs.Hierarchy.{nodes_of};
 ghost use Rattle.ch_engine.specs.Opened.{IsOpened, IsOpenedLike, IsOpenedOfArrays, IsOpenedQuickly};
 ghost use Rattle.ch_engine.specs.Refusals.{IsArraysOpenError, IsLikeError, IsOpenError};
-ghost use Rattle.ch_c.specs.Calls.{AreFlowsAnswered, AreTableFlowsAnswered, ArePairsAnswered, ArePairSumsAnswered, AreTableSumsAnswered, AreRouteNodes, AreRoutesAnswered, IsRouteAnswered, IsRouteTold, IsSaved, IsTableAnswered};
+ghost use Rattle.ch_c.specs.Calls.{AreFlowsAnswered, AreKeptSumsAnswered, AreTableFlowsAnswered, ArePairsAnswered, ArePairSumsAnswered, AreTableSumsAnswered, AreValuesKept, AreRouteNodes, AreRoutesAnswered, IsRouteAnswered, IsRouteTold, IsSaved, IsTableAnswered};
 
 use crate::near::{status_of_end, status_of_sums};
 use crate::status::{NO_MEMORY, OK, SUM_TOO_LARGE, TOO_SHORT, status_of};
@@ -33,7 +33,7 @@ pub(crate) fn opened(
     graph: &[u8],
     saved: &[u8],
 ) -> Result<Box<Engine, Global>, OpenError>
-    ensures value { IfOk result (λ engine. (engine.value.near ≡ None) × IsOpened graph.now saved.now engine.value.hierarchy engine.value.lines) }
+    ensures value { IfOk result (λ engine. KeepsNothing engine.value × IsOpened graph.now saved.now engine.value.hierarchy engine.value.lines) }
     ensures error { IfErr result (IsOpenError graph.now saved.now) }
 {
     let engine = Engine::open(alloc, graph, saved)?;
@@ -55,7 +55,7 @@ pub(crate) fn opened_of_arrays(
     weights: &[u64],
     saved: &[u8],
 ) -> Result<Box<Engine, Global>, OpenError>
-    ensures value { IfOk result (λ engine. (engine.value.near ≡ None) × IsOpenedOfArrays nodes tails.now heads.now weights.now saved.now engine.value.hierarchy engine.value.lines) }
+    ensures value { IfOk result (λ engine. KeepsNothing engine.value × IsOpenedOfArrays nodes tails.now heads.now weights.now saved.now engine.value.hierarchy engine.value.lines) }
     ensures error { IfErr result (IsArraysOpenError nodes tails.now heads.now weights.now saved.now) }
 {
     let engine = Engine::open_arrays(alloc, nodes, tails, heads, weights, saved)?;
@@ -70,7 +70,7 @@ pub(crate) fn opened_of_arrays(
 /// # Errors
 /// The errors of [`Engine::open_quickly`].
 pub(crate) fn opened_quickly(alloc: Global, graph: &[u8]) -> Result<Box<Engine, Global>, OpenError>
-    ensures value { IfOk result (λ engine. (engine.value.near ≡ None) × IsOpenedQuickly graph.now engine.value.hierarchy engine.value.lines) }
+    ensures value { IfOk result (λ engine. KeepsNothing engine.value × IsOpenedQuickly graph.now engine.value.hierarchy engine.value.lines) }
     ensures error { IfErr result (IsOpenError graph.now []) }
 {
     let engine = Engine::open_quickly(alloc, graph)?;
@@ -90,7 +90,7 @@ pub(crate) fn opened_like(
     other: &Engine,
     fresh: u32,
 ) -> Result<Box<Engine, Global>, OpenError>
-    ensures value { IfOk result (λ engine. (engine.value.near ≡ None) × IsOpenedLike graph.now other.now.hierarchy fresh engine.value.hierarchy engine.value.lines) }
+    ensures value { IfOk result (λ engine. KeepsNothing engine.value × IsOpenedLike graph.now other.now.hierarchy fresh engine.value.hierarchy engine.value.lines) }
     ensures error { IfErr result (IsLikeError graph.now (nodes_of other.now.hierarchy) fresh) }
 {
     let engine = other.open_like(alloc, graph, fresh)?;
@@ -102,7 +102,7 @@ pub(crate) fn opened_like(
 
 /// Makes a second engine on the heap in the same network, or returns `None` if there is no memory.
 pub(crate) fn shared(alloc: Global, engine: &Engine) -> Option<Box<Engine, Global>>
-    ensures { (second : _) → result ≡ Some second → second.value ≡ only engine.now.hierarchy engine.now.lines }
+    ensures { (second : _) → result ≡ Some second → second.value ≡ without_places engine.now }
 {
     let Ok(second) = engine.share(alloc) else {
         return None;
@@ -258,6 +258,39 @@ pub(crate) fn write_table_sums(
     ensures same { engine.new ≡ engine.old }
 {
     match engine.table_sums(alloc, sources, targets, values, weights, sums) {
+        Ok(summed) => {
+            *cells = summed.count;
+            status_of_sums(summed.end)
+        }
+        Err(refusal) => status_of(refusal),
+    }
+}
+
+/// Keeps values of lines. Returns a status.
+pub(crate) fn keep_values(alloc: Global, engine: &mut Engine, values: &[u64]) -> u32
+    ensures { AreValuesKept values.now engine.old (Some engine.new) result }
+{
+    match engine.keep_values(alloc, values) {
+        Ok(()) => OK,
+        Err(refusal) => status_of(refusal),
+    }
+}
+
+/// Writes sums of the kept values along the routes of the cells of a table as far as they fit and there is memory. Returns a
+/// status.
+pub(crate) fn write_kept_sums(
+    alloc: Global,
+    engine: &mut Engine,
+    sources: &[u32],
+    targets: &[u32],
+    cells: &mut u64,
+    weights: &mut [u64],
+    sums: &mut [u64],
+) -> u32
+    ensures answered { AreKeptSumsAnswered engine.old sources.now targets.now (record { pairs = cells.old; weights = weights.old; sums = sums.old }) (record { pairs = cells.new; weights = weights.new; sums = sums.new }) result }
+    ensures same { engine.new ≡ engine.old }
+{
+    match engine.kept_table_sums(alloc, sources, targets, weights, sums) {
         Ok(summed) => {
             *cells = summed.count;
             status_of_sums(summed.end)

@@ -2,13 +2,13 @@
 ghost use Rattle.std.specs.Prelude.{◌≡◌, ◌↔◌, IfSome, IsSome, IsTrue, MatchOption, None, Some, ⊤};
 ghost use Rattle.ch_hierarchy.specs.Hierarchy.{nodes_of};
 ghost use Rattle.ch_engine.specs.Lines.{IsOfSome};
-ghost use Rattle.ch_c.specs.Calls.{AreCellsAnswered, AreFlowsAnswered, ArePairsAnswered, ArePairSumsAnswered, ArePlacesKept, AreRoutesAnswered, AreRowsAnswered, AreSumsAnswered, AreTableFlowsAnswered, AreTableSumsAnswered, IsRouteAnswered, IsSaved, IsSwept, IsTableAnswered, OfNetwork};
+ghost use Rattle.ch_c.specs.Calls.{AreCellsAnswered, AreFlowsAnswered, AreKeptSumsAnswered, ArePairsAnswered, ArePairSumsAnswered, ArePlacesKept, AreRoutesAnswered, AreRowsAnswered, AreSumsAnswered, AreTableFlowsAnswered, AreTableSumsAnswered, AreValuesKept, IsRouteAnswered, IsSaved, IsSwept, IsTableAnswered, OfNetwork};
 ghost use Rattle.ch_c.specs.declared.status.TheConstants.{OK};
 
 pub use crate::answers::Found;
 use crate::answers::{
-    write_distances, write_flows, write_route, write_route_sums, write_routes, write_saved,
-    write_table, write_table_flows, write_table_sums,
+    keep_values, write_distances, write_flows, write_kept_sums, write_route, write_route_sums,
+    write_routes, write_saved, write_table, write_table_flows, write_table_sums,
 };
 use crate::erased::ErasedEngine;
 use crate::near::{keep_places, sweep, write_cells, write_rows, write_sums};
@@ -276,6 +276,41 @@ pub extern "C" fn chtab_table_sums(
         weights,
         sums,
     );
+    handle.put(engine);
+    status
+}
+
+/// Keeps a value for each line of the graph. They replace the values before.
+#[unsafe(no_mangle)]
+pub extern "C" fn chtab_keep_values(alloc: Global, handle: &mut Handle, values: &[u64]) -> u32
+    ensures { OfNetwork handle.old.engine.network result (handle.new.engine.network ≡ None) (λ held. AreValuesKept values.now held handle.new.engine.network result) }
+{
+    let Some(mut engine) = handle.take(alloc) else {
+        return CLOSED;
+    };
+    let status = keep_values(alloc, &mut engine, values);
+    handle.put(engine);
+    status
+}
+
+/// Writes sums along the routes of the cells of a table, as [`chtab_table_sums`] does for the values that are kept.
+#[unsafe(no_mangle)]
+pub extern "C" fn chtab_kept_table_sums(
+    alloc: Global,
+    handle: &mut Handle,
+    sources: &[u32],
+    targets: &[u32],
+    cells: &mut u64,
+    weights: &mut [u64],
+    sums: &mut [u64],
+) -> u32
+    ensures answered { OfNetwork handle.old.engine.network result ((cells.new ≡ cells.old) × (weights.new ≡ weights.old) × (sums.new ≡ sums.old)) (λ held. AreKeptSumsAnswered held sources.now targets.now (record { pairs = cells.old; weights = weights.old; sums = sums.old }) (record { pairs = cells.new; weights = weights.new; sums = sums.new }) result) }
+    ensures same { handle.new.engine.network ≡ handle.old.engine.network }
+{
+    let Some(mut engine) = handle.take(alloc) else {
+        return CLOSED;
+    };
+    let status = write_kept_sums(alloc, &mut engine, sources, targets, cells, weights, sums);
     handle.put(engine);
     status
 }

@@ -52,6 +52,9 @@ pub(crate) const FRESH_RANGE: u32 = 14;
 /// The order of a topology has too many triangles.
 pub(crate) const TRIANGLES: u32 = 15;
 
+/// No values of lines are kept.
+pub(crate) const NO_VALUES: u32 = 16;
+
 /// Returns the status of a refusal.
 pub(crate) fn status_of(refusal: Refusal) -> u32
     ensures { result ≡ refusal_status refusal }
@@ -62,6 +65,7 @@ pub(crate) fn status_of(refusal: Refusal) -> u32
         Refusal::Lengths => LENGTHS,
         Refusal::TooLarge => TOO_LARGE,
         Refusal::NoPlaces => NO_PLACES,
+        Refusal::NoValues => NO_VALUES,
     }
 }
 
@@ -83,4 +87,5 @@ pub fn numbers()
     ensures other_nodes { OTHER_NODES ≡ 13 }
     ensures fresh_range { FRESH_RANGE ≡ 14 }
     ensures triangles { TRIANGLES ≡ 15 }
+    ensures no_values { NO_VALUES ≡ 16 }
 {}

@@ -1,5 +1,6 @@
 //! The handle of a topology that C holds, and the calls on it.
 ghost use Rattle.std.specs.Prelude.{◌≡◌, ◌↔◌, ◌⊎◌, length, IfErr, IfOk, IfSome, IsSome, MatchOption, None, Some};
+ghost use Rattle.ch_engine.specs.Held.{KeepsNothing};
 ghost use Rattle.ch_engine.specs.Topologies.{IsArraysTopologyError, IsOpenedWith, IsTopologyError, IsTopologyOfArrays, IsTopologyOpened, IsWeightsError};
 ghost use Rattle.ch_c.specs.Topologies.{IsCustomizing, IsOrderWritten, IsTopologyOpening, IsTopologyOpeningOfArrays, IsTopologySharing, topology_fault, topology_status};
 ghost use Rattle.ch_c.specs.declared.status.TheConstants.{OK};
@@ -280,7 +281,7 @@ fn customized(
     topology: &Topology,
     weights: &[u64],
 ) -> Result<Box<Engine, Global>, OpenError>
-    ensures value { IfOk result (λ engine. (engine.value.near ≡ None) × IsOpenedWith topology.now weights.now engine.value.hierarchy engine.value.lines) }
+    ensures value { IfOk result (λ engine. KeepsNothing engine.value × IsOpenedWith topology.now weights.now engine.value.hierarchy engine.value.lines) }
     ensures error { IfErr result (IsWeightsError topology.now weights.now) }
 {
     let engine = Engine::customized(alloc, topology, weights)?;

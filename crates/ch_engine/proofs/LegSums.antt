@@ -1,6 +1,7 @@
 -- Sums of values along legs: those of both halves of a shortcut add up.
 use Rattle.std.proofs.Common.{◌≡◌, ◌≢◌, ℕ, zero, suc, ◌+◌, ◌-◌, ◌<◌, List, [], ◌∷◌, ◌++◌, length, get_or, Contains, Option, Some, None}
 use Rattle.std.proofs.Common.{inl, inr, refl, sym, subst, arith}
+use Rattle.std.specs.Prelude.{MatchOption, ⊤}
 use Rattle.std.proofs.lemmas.Bool.{cases_lt}
 use Rattle.std.proofs.lemmas.List.{get_or-append-add, get_or_append_left, get_or_default, length-append}
 use Rattle.std.proofs.lemmas.List.Sums.{sum_by-append, sum_by-cons}
@@ -105,3 +106,8 @@ module _ (H : LevelsAndLegs) (lines : Lines) (values : List ℕ) where
       rows_pushed P rows made n count (λ k less. are k (omega (arith, less, count)))
       (subst (λ (v : ℕ). AreLegWords side H lines values v made) at words) i
       (omega (arith, low, length-append rows (made ∷ []), count)))
+
+-- of two facts on what is there, the first
+pub first_of_both : {T : Type 0} (o : Option T) (P Q : T → Type 0) → MatchOption o ⊤ (λ x. P x × Q x) → MatchOption o ⊤ P
+first_of_both None P Q both = tt
+first_of_both (Some x) P Q both = both.0

@@ -67,3 +67,11 @@ pub record AreLegSums (H : LevelsAndLegs) (lines : Lines) (values : List ℕ) (s
 -- the sums that are kept are those for the values that are kept
 abbrev pub AreKeptSums : LevelsAndLegs → Lines → KeptSums → Type 0
 AreKeptSums H lines kept = AreLegSums H lines kept.values.items kept.sums
+
+-- the values that are kept
+abbrev pub values_of : KeptSums → List ℕ
+values_of kept = kept.values.items
+
+-- the same, with a value for each line
+abbrev pub AreKeptOfLines : LevelsAndLegs → Lines → KeptSums → Type 0
+AreKeptOfLines H lines kept = AreKeptSums H lines kept × (length kept.values.items ≡ lines.count)

@@ -82,6 +82,7 @@ IsRefusalOfPairs n sources targets room Refusal.NodeRange = (length sources ≡ 
 IsRefusalOfPairs n sources targets room Refusal.Lengths = (length sources ≡ room) × (length targets ≡ room) → ⊥
 IsRefusalOfPairs n sources targets room Refusal.TooLarge = ⊥
 IsRefusalOfPairs n sources targets room Refusal.NoPlaces = ⊥
+IsRefusalOfPairs n sources targets room Refusal.NoValues = ⊥
 
 -- these are the sources and the targets of a table, with room for a word of each cell
 abbrev pub AreTableLists : ℕ → List ℕ → List ℕ → ℕ → Type 0
@@ -99,6 +100,7 @@ IsRefusalOfTable n sources targets room Refusal.TooLarge =
     (length sources * length targets ≡ room) × AreNodes n sources × AreNodes n targets
     × ((length sources ≤ MOST_LISTED) × (length targets ≤ MOST_LISTED) → ⊥)
 IsRefusalOfTable n sources targets room Refusal.NoPlaces = ⊥
+IsRefusalOfTable n sources targets room Refusal.NoValues = ⊥
 
 -- both are nodes of a network of n nodes
 abbrev pub IsNodePair : ℕ → ℕ → ℕ → Type 0
@@ -111,6 +113,7 @@ IsRefusalOfRoute n source target Refusal.NodeRange = IsNodePair n source target 
 IsRefusalOfRoute n source target Refusal.Lengths = ⊥
 IsRefusalOfRoute n source target Refusal.TooLarge = ⊥
 IsRefusalOfRoute n source target Refusal.NoPlaces = ⊥
+IsRefusalOfRoute n source target Refusal.NoValues = ⊥
 
 -- so many lines can be asked for with room for so many nodes: none, or as many
 abbrev pub IsLinesRoom : ℕ → ℕ → Type 0
@@ -131,6 +134,7 @@ IsRefusalOfRoutes n sources targets weights ends nodes lines Refusal.Lengths =
     AreRouteLengths (length sources) (length targets) weights ends nodes lines → ⊥
 IsRefusalOfRoutes n sources targets weights ends nodes lines Refusal.TooLarge = ⊥
 IsRefusalOfRoutes n sources targets weights ends nodes lines Refusal.NoPlaces = ⊥
+IsRefusalOfRoutes n sources targets weights ends nodes lines Refusal.NoValues = ⊥
 
 -- arrays of these lengths fit so many pairs, and there is a value for each line
 abbrev pub ArePairSumLengths : ℕ → ℕ → ℕ → ℕ → ℕ → ℕ → Type 0
@@ -147,6 +151,7 @@ IsRefusalOfPairSums n lines sources targets values weights sums Refusal.Lengths 
     ArePairSumLengths (length sources) (length targets) weights sums values lines → ⊥
 IsRefusalOfPairSums n lines sources targets values weights sums Refusal.TooLarge = ⊥
 IsRefusalOfPairSums n lines sources targets values weights sums Refusal.NoPlaces = ⊥
+IsRefusalOfPairSums n lines sources targets values weights sums Refusal.NoValues = ⊥
 
 -- arrays of these lengths fit a table of sums: a place for each cell, and a value for each line
 abbrev pub AreTableSumLengths : ℕ → ℕ → ℕ → ℕ → ℕ → ℕ → Type 0
@@ -162,6 +167,7 @@ IsRefusalOfTableSums n lines sources targets values weights sums Refusal.Lengths
     AreTableSumLengths (length sources) (length targets) weights sums values lines → ⊥
 IsRefusalOfTableSums n lines sources targets values weights sums Refusal.TooLarge = ⊥
 IsRefusalOfTableSums n lines sources targets values weights sums Refusal.NoPlaces = ⊥
+IsRefusalOfTableSums n lines sources targets values weights sums Refusal.NoValues = ⊥
 
 -- arrays of these lengths fit so many pairs, and there is a flow for each line
 abbrev pub AreFlowLengths : ℕ → ℕ → ℕ → ℕ → ℕ → Type 0
@@ -177,6 +183,7 @@ IsRefusalOfFlows n lines sources targets demands flows Refusal.Lengths =
     AreFlowLengths (length sources) (length targets) demands flows lines → ⊥
 IsRefusalOfFlows n lines sources targets demands flows Refusal.TooLarge = ⊥
 IsRefusalOfFlows n lines sources targets demands flows Refusal.NoPlaces = ⊥
+IsRefusalOfFlows n lines sources targets demands flows Refusal.NoValues = ⊥
 
 -- arrays of these lengths fit a table: a demand for each cell, and a flow for each line
 abbrev pub AreFlowTableLengths : ℕ → ℕ → ℕ → ℕ → ℕ → Type 0
@@ -191,6 +198,7 @@ IsRefusalOfFlowTable n lines sources targets demands flows Refusal.Lengths =
     AreFlowTableLengths (length sources) (length targets) demands flows lines → ⊥
 IsRefusalOfFlowTable n lines sources targets demands flows Refusal.TooLarge = ⊥
 IsRefusalOfFlowTable n lines sources targets demands flows Refusal.NoPlaces = ⊥
+IsRefusalOfFlowTable n lines sources targets demands flows Refusal.NoValues = ⊥
 
 -- these are places: nodes, and not too many
 abbrev pub ArePlaces : ℕ → List ℕ → Type 0
@@ -203,6 +211,7 @@ IsRefusalOfPlaces n places Refusal.NodeRange = (length places ≤ MOST_LISTED) �
 IsRefusalOfPlaces n places Refusal.Lengths = ⊥
 IsRefusalOfPlaces n places Refusal.TooLarge = length places ≤ MOST_LISTED → ⊥
 IsRefusalOfPlaces n places Refusal.NoPlaces = ⊥
+IsRefusalOfPlaces n places Refusal.NoValues = ⊥
 
 -- the reason for refusing the sweep. Places come before memory
 abbrev pub IsRefusalOfSweep : Option Asked → Refusal → Type 0
@@ -211,6 +220,7 @@ IsRefusalOfSweep near Refusal.NodeRange = ⊥
 IsRefusalOfSweep near Refusal.Lengths = ⊥
 IsRefusalOfSweep near Refusal.TooLarge = ⊥
 IsRefusalOfSweep near Refusal.NoPlaces = near ≡ None
+IsRefusalOfSweep near Refusal.NoValues = ⊥
 
 -- near rows of these sources can be asked for, with arrays of these lengths for ends, weights and places
 abbrev pub AreRowSources : ℕ → Option Asked → List ℕ → ℕ → ℕ → ℕ → Type 0
@@ -224,6 +234,7 @@ IsRefusalOfRows n near sources ends weights places Refusal.NodeRange = (length s
 IsRefusalOfRows n near sources ends weights places Refusal.Lengths = (length sources ≡ ends) × (weights ≡ places) → ⊥
 IsRefusalOfRows n near sources ends weights places Refusal.TooLarge = ⊥
 IsRefusalOfRows n near sources ends weights places Refusal.NoPlaces = (length sources ≡ ends) × (weights ≡ places) × (near ≡ None)
+IsRefusalOfRows n near sources ends weights places Refusal.NoValues = ⊥
 
 -- there is a value for each place that is kept
 abbrev pub HasValues : Option Asked → List ℕ → Type 0
@@ -242,6 +253,7 @@ IsRefusalOfSums n near sources values limits sums Refusal.Lengths = IsSome near
     × (HasValues near values × (sums ≡ length sources * limits) → ⊥)
 IsRefusalOfSums n near sources values limits sums Refusal.TooLarge = ⊥
 IsRefusalOfSums n near sources values limits sums Refusal.NoPlaces = near ≡ None
+IsRefusalOfSums n near sources values limits sums Refusal.NoValues = ⊥
 
 -- rows of a table over the kept places can be asked for: a row may have all places, and each cell has room
 abbrev pub AreCellSources : ℕ → Option Asked → List ℕ → ℕ → Type 0
@@ -255,3 +267,33 @@ IsRefusalOfCells n near sources cells Refusal.NodeRange = KeepsAll near × (cell
 IsRefusalOfCells n near sources cells Refusal.Lengths = KeepsAll near × (cells ≡ length sources * places_of near → ⊥)
 IsRefusalOfCells n near sources cells Refusal.TooLarge = ⊥
 IsRefusalOfCells n near sources cells Refusal.NoPlaces = KeepsAll near → ⊥
+IsRefusalOfCells n near sources cells Refusal.NoValues = ⊥
+
+-- the reason for refusing values of so many lines. Lengths come before memory
+abbrev pub IsRefusalOfValues : ℕ → ℕ → Refusal → Type 0
+IsRefusalOfValues lines values Refusal.NoMemory = values ≡ lines
+IsRefusalOfValues lines values Refusal.NodeRange = ⊥
+IsRefusalOfValues lines values Refusal.Lengths = values ≢ lines
+IsRefusalOfValues lines values Refusal.TooLarge = ⊥
+IsRefusalOfValues lines values Refusal.NoPlaces = ⊥
+IsRefusalOfValues lines values Refusal.NoValues = ⊥
+
+-- arrays of these lengths have a place for each cell of a table
+abbrev pub IsCellRoom : ℕ → ℕ → ℕ → ℕ → Type 0
+IsCellRoom sources targets weights sums = (weights ≡ sources * targets) × (sums ≡ sources * targets)
+
+-- a table of sums of the kept values can be asked for: there are some, and each cell has room
+abbrev pub AreKeptSumLists : ℕ → Option (List ℕ) → List ℕ → List ℕ → ℕ → ℕ → Type 0
+AreKeptSumLists n values sources targets weights sums = IsSome values
+    × IsCellRoom (length sources) (length targets) weights sums × AreNodes n sources × AreNodes n targets
+
+-- the reason for refusing such a table. Values come before lengths, and lengths before nodes
+abbrev pub IsRefusalOfKeptSums : ℕ → Option (List ℕ) → List ℕ → List ℕ → ℕ → ℕ → Refusal → Type 0
+IsRefusalOfKeptSums n values sources targets weights sums Refusal.NoMemory = ⊥
+IsRefusalOfKeptSums n values sources targets weights sums Refusal.NodeRange = IsSome values
+    × IsCellRoom (length sources) (length targets) weights sums × (AreNodes n sources × AreNodes n targets → ⊥)
+IsRefusalOfKeptSums n values sources targets weights sums Refusal.Lengths = IsSome values
+    × (IsCellRoom (length sources) (length targets) weights sums → ⊥)
+IsRefusalOfKeptSums n values sources targets weights sums Refusal.TooLarge = ⊥
+IsRefusalOfKeptSums n values sources targets weights sums Refusal.NoPlaces = ⊥
+IsRefusalOfKeptSums n values sources targets weights sums Refusal.NoValues = values ≡ None

@@ -3,7 +3,7 @@
 use Rattle.std.specs.Prelude.{◌≡◌, ◌≢◌, ℕ, ◌+◌, ◌*◌, ◌^◌, ◌<◌, ◌≤◌, ◌⊎◌, ◌++◌, ⊤, List, [], length, map, slice_index}
 use Rattle.std.specs.Prelude.{slice_index_or, All, Contains}
 use Rattle.ch_graph.specs.declared.limits.TheConstants.{MOST_WEIGHT}
-use Rattle.std.specs.Prelude.{Option, None, Some}
+use Rattle.std.specs.Prelude.{MatchOption, Option, None, Some}
 use Rattle.ch_graph.specs.declared.cost.Cost.{Cost}
 use Rattle.ch_graph.specs.Cost.{cost_sum}
 use Rattle.ch_hierarchy.specs.Hierarchy.{LevelsAndLegs, nodes_of}
@@ -194,3 +194,8 @@ IsTableEnd held values sources targets n SumsEnd.NoMemory = n ≤ length sources
 abbrev pub AreTableSumsWritten : Held → List ℕ → List ℕ → List ℕ → List ℕ → List ℕ → Summed → Type 0
 AreTableSumsWritten held sources targets values weights sums summed =
     AreTableSums held values sources targets weights sums summed.count × IsTableEnd held values sources targets summed.count summed.end
+
+-- the same of the values that are kept
+abbrev pub AreKeptSumsWritten : Held → List ℕ → List ℕ → List ℕ → List ℕ → Summed → Type 0
+AreKeptSumsWritten held sources targets weights sums summed =
+    MatchOption held.values ⊥ (λ values. AreTableSumsWritten held sources targets values weights sums summed)

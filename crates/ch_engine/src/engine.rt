@@ -8,13 +8,14 @@ ghost use Rattle.ch_query.specs.Routes.{IsRoute, IsRouteBy};
 ghost use Rattle.ch_tree.specs.Tree.{IsTree};
 ghost use Rattle.ch_engine.specs.Lines.{IsOfSome};
 ghost use Rattle.ch_text.specs.SaveText.{IsHierarchyText};
-ghost use Rattle.ch_engine.specs.Held.{only};
+ghost use Rattle.ch_engine.specs.Held.{KeepsNothing, only, without_places};
 ghost use Rattle.ch_engine.specs.Opened.{IsOpened, IsOpenedLike, IsOpenedOfArrays, IsOpenedQuickly};
 ghost use Rattle.ch_engine.specs.Cells.{ArePairCells, AreTableCells, IsCell};
 ghost use Rattle.ch_engine.specs.Routes.{IsFound};
 ghost use Rattle.ch_engine.specs.Refusals.{AreNodes, ArePairs, AreTableLists, IsLikeError, IsNodePair, IsOpenError, IsRefusalOfPairs, IsRefusalOfRoute, IsRefusalOfTable, IsArraysOpenError};
 
 use crate::fault::{OpenError, Refusal};
+use crate::kept_values::shared;
 use crate::leg_sums::KeptSums;
 use crate::network::Network;
 use crate::opening::{opened, opened_like, opened_of_arrays, opened_quickly};
@@ -31,9 +32,9 @@ use std::alloc::{AllocError, Global};
 use std::marker::Model;
 use std::sync::Arc;
 
-/// A network, with room for one question at a time, and with what the engine keeps: places of near rows, and sums
-/// along legs. Several engines may share the network. Contracts see the hierarchy and what is asked of the places.
-/// So room and places always belong to the engine's own network.
+/// A network, with room for one question at a time, and with what the engine keeps: places of near rows, values of lines,
+/// and sums along legs. Several engines may share the network and the values. Contracts see the hierarchy, what is asked of
+/// the places, and the values. So all of it always belongs to the engine's own network.
 #[derive(Drop)]
 pub struct Engine {
     pub(crate) network: Arc<Network, Global>,
@@ -44,8 +45,10 @@ pub struct Engine {
     pub(crate) kept: Option<KeptTargets>,
     /// The number of these places.
     pub(crate) places: usize,
-    /// The sums along all legs for some values of lines, if they were needed.
-    pub(crate) sums: Option<KeptSums>,
+    /// The kept values of lines with the sums along all legs for them, if some are kept.
+    pub(crate) values: Option<Arc<KeptSums, Global>>,
+    /// The same for the values of the last call that needed such sums for other values than the kept ones.
+    pub(crate) sums: Option<Arc<KeptSums, Global>>,
     /// The nodes or ranks that searches from the targets of a table reach, if there was a table. Only room for them is kept.
     pub(crate) slots: Option<Slots>,
     /// Room for search trees with sums, if they were needed.
@@ -58,13 +61,13 @@ impl Model for Engine {
     ghost use Rattle.ch_hierarchy.specs.Hierarchy.{nodes_of};
     ghost use Rattle.ch_near.specs.Kept.{AreKeptIn, asked_by};
     ghost use Rattle.ch_engine.specs.Held.{Held};
-    ghost use Rattle.ch_engine.specs.LegSums.{AreKeptSums};
+    ghost use Rattle.ch_engine.specs.LegSums.{AreKeptOfLines, AreKeptSums, values_of};
 
     ghost Value = { Held };
 
-    ghost view = { λ engine. record { hierarchy = (arc_value engine.network).0; lines = (arc_value engine.network).1; near = option_map asked_by engine.kept } };
+    ghost view = { λ engine. record { hierarchy = (arc_value engine.network).0; lines = (arc_value engine.network).1; near = option_map asked_by engine.kept; values = option_map (λ kept. values_of (arc_value kept)) engine.values } };
 
-    ghost invariant = { λ engine. (engine.scratch ≡ nodes_of (arc_value engine.network).0) × MatchOption engine.by_tree ⊤ (λ scratch. scratch ≡ nodes_of (arc_value engine.network).0) × MatchOption engine.kept ⊤ (AreKeptIn (arc_value engine.network).0) × MatchOption engine.kept ⊤ (λ kept. engine.places ≡ length (asked_by kept).targets) × MatchOption engine.sums ⊤ (AreKeptSums (arc_value engine.network).0 (arc_value engine.network).1) × MatchOption engine.slots ⊤ (λ slots. slots.numbers ≡ nodes_of (arc_value engine.network).0) };
+    ghost invariant = { λ engine. (engine.scratch ≡ nodes_of (arc_value engine.network).0) × MatchOption engine.by_tree ⊤ (λ scratch. scratch ≡ nodes_of (arc_value engine.network).0) × MatchOption engine.kept ⊤ (AreKeptIn (arc_value engine.network).0) × MatchOption engine.kept ⊤ (λ kept. engine.places ≡ length (asked_by kept).targets) × MatchOption engine.values ⊤ (λ kept. AreKeptOfLines (arc_value engine.network).0 (arc_value engine.network).1 (arc_value kept)) × MatchOption engine.sums ⊤ (λ kept. AreKeptSums (arc_value engine.network).0 (arc_value engine.network).1 (arc_value kept)) × MatchOption engine.slots ⊤ (λ slots. slots.numbers ≡ nodes_of (arc_value engine.network).0) };
 }
 
 impl Engine {
@@ -76,7 +79,7 @@ impl Engine {
     /// The first fault of the graph's bytes, otherwise that of the saved hierarchy's bytes, otherwise its first fault
     /// for the graph; or `NoMemory`.
     pub fn open(alloc: Global, graph: &[u8], saved: &[u8]) -> Result<Engine, OpenError>
-        ensures value { IfOk result (λ held. (held.near ≡ None) × IsOpened graph.now saved.now held.hierarchy held.lines) }
+        ensures value { IfOk result (λ held. KeepsNothing held × IsOpened graph.now saved.now held.hierarchy held.lines) }
         ensures error { IfErr result (IsOpenError graph.now saved.now) }
     {
         let network = opened(alloc, graph, saved)?;
@@ -98,7 +101,7 @@ impl Engine {
         weights: &[u64],
         saved: &[u8],
     ) -> Result<Engine, OpenError>
-        ensures value { IfOk result (λ held. (held.near ≡ None) × IsOpenedOfArrays nodes tails.now heads.now weights.now saved.now held.hierarchy held.lines) }
+        ensures value { IfOk result (λ held. KeepsNothing held × IsOpenedOfArrays nodes tails.now heads.now weights.now saved.now held.hierarchy held.lines) }
         ensures error { IfErr result (IsArraysOpenError nodes tails.now heads.now weights.now saved.now) }
     {
         let network = opened_of_arrays(alloc, nodes, tails, heads, weights, saved)?;
@@ -111,7 +114,7 @@ impl Engine {
     /// # Errors
     /// The first fault of the graph's bytes, or `NoMemory`.
     pub fn open_quickly(alloc: Global, graph: &[u8]) -> Result<Engine, OpenError>
-        ensures value { IfOk result (λ held. (held.near ≡ None) × IsOpenedQuickly graph.now held.hierarchy held.lines) }
+        ensures value { IfOk result (λ held. KeepsNothing held × IsOpenedQuickly graph.now held.hierarchy held.lines) }
         ensures error { IfErr result (IsOpenError graph.now []) }
     {
         let network = opened_quickly(alloc, graph)?;
@@ -129,7 +132,7 @@ impl Engine {
     /// The first fault of the graph's bytes, otherwise `OtherNodes` if the graph has another number of nodes, otherwise
     /// `FreshRange` if `fresh` is above 100; or `NoMemory`.
     pub fn open_like(&self, alloc: Global, graph: &[u8], fresh: u32) -> Result<Engine, OpenError>
-        ensures value { IfOk result (λ held. (held.near ≡ None) × IsOpenedLike graph.now self.now.hierarchy fresh held.hierarchy held.lines) }
+        ensures value { IfOk result (λ held. KeepsNothing held × IsOpenedLike graph.now self.now.hierarchy fresh held.hierarchy held.lines) }
         ensures afresh { fresh ≡ 100 → IfOk result (λ held. IsOpened graph.now [] held.hierarchy held.lines) }
         ensures error { IfErr result (IsLikeError graph.now (nodes_of self.now.hierarchy) fresh) }
     {
@@ -150,28 +153,31 @@ impl Engine {
             by_tree,
             kept: None,
             places: 0,
+            values: None,
             sums: None,
             slots: None,
             trees: None,
         }))
     }
 
-    /// Makes a second engine in the same network, with room of its own. It keeps no places.
+    /// Makes a second engine in the same network, with room of its own. It keeps the same values, and no places.
     ///
     /// # Errors
-    /// `AllocError` if there is no memory, or if more engines share the network than can be counted.
+    /// `AllocError` if there is no memory, or if more engines share the network or the values than can be counted.
     pub fn share(&self, alloc: Global) -> Result<Engine, AllocError>
-        ensures { IfOk result (λ held. held ≡ only self.now.hierarchy self.now.lines) }
+        ensures { IfOk result (λ held. held ≡ without_places self.now) }
     {
         let network = Arc::try_clone(&self.network)?;
         let scratch = Scratch::new(alloc, network.hierarchy().nodes())?;
         let by_tree = network.tree_scratch(alloc)?;
+        let values = shared(&self.values)?;
         Ok(Engine {
             network,
             scratch,
             by_tree,
             kept: None,
             places: 0,
+            values,
             sums: None,
             slots: None,
             trees: None,

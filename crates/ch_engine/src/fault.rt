@@ -56,6 +56,9 @@ pub enum Refusal {
     /// No places for near rows are kept.
     #[error("no places for near rows")]
     NoPlaces,
+    /// No values of lines are kept.
+    #[error("no values of lines")]
+    NoValues,
 }
 
 impl From<AllocError> for OpenError {

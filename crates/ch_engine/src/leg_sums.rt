@@ -1,5 +1,6 @@
 //! Sums of values along the legs of a hierarchy.
-ghost use Rattle.std.specs.Prelude.{◌≡◌, ◌≢◌, ◌+◌, ◌<◌, ℕ, List, MatchOption, Some, length, slice_index, Contains, IfOk, OnOk, ⊤};
+ghost use Rattle.std.specs.Prelude.{◌≡◌, ◌≢◌, ◌+◌, ◌<◌, ℕ, List, Some, length, slice_index, Contains, IfOk, OnOk};
+ghost use Rattle.std.specs.Arc.{arc_value};
 ghost use Rattle.ch_hierarchy.specs.declared.leg.Leg.{Leg as AnyLeg};
 ghost use Rattle.ch_hierarchy.specs.Hierarchy.{nodes_of};
 ghost use Rattle.ch_hierarchy.specs.Rows.{row as the_row_of};
@@ -12,6 +13,7 @@ use crate::network::Network;
 use ch_graph::Rows;
 use ch_hierarchy::{Hierarchy, Leg, Side};
 use std::alloc::{AllocError, Global};
+use std::sync::Arc;
 
 /// The word for a sum that is not known, because it or a part of it is too large.
 pub(crate) const UNKNOWN: u64 = u64::MAX;
@@ -78,31 +80,22 @@ impl LegSums {
 }
 
 impl Network {
-    /// Keeps the sums along all legs for these values, unless those that are kept already are for the same values.
+    /// Returns the sums along all legs for these values, with a copy of the values.
     ///
     /// # Errors
-    /// `AllocError` if there is no memory. Then none are kept.
-    pub(crate) fn keep_sums(
+    /// `AllocError` if there is no memory.
+    pub(crate) fn kept_sums(
         &self,
         alloc: Global,
-        kept: &mut Option<KeptSums>,
         values: &[u64],
-    ) -> Result<(), AllocError>
-        requires { MatchOption kept.old ⊤ (AreKeptSums self.now.0 self.now.1) }
-        ensures kept { MatchOption kept.new ⊤ (AreKeptSums self.now.0 self.now.1) }
-        ensures values { OnOk result (MatchOption kept.new ⊤ (λ sums. sums.values.items ≡ values.now)) }
+    ) -> Result<Arc<KeptSums, Global>, AllocError>
+        ensures sums { IfOk result (λ kept. AreKeptSums self.now.0 self.now.1 (arc_value kept)) }
+        ensures values { IfOk result (λ kept. (arc_value kept).values.items ≡ values.now) }
     {
-        if let Some(sums) = kept {
-            if sums.values.as_slice() == values {
-                return Ok(());
-            }
-        }
-        *kept = None;
         let sums = self.leg_sums(alloc, values)?;
         let mut copy = Vec::with_capacity(alloc, values.len())?;
         copy.extend_from_slice(values)?;
-        *kept = Some(KeptSums { values: copy, sums });
-        Ok(())
+        Ok(Arc::new(alloc, KeptSums { values: copy, sums })?)
     }
 
     /// Returns the sums of the values along all legs. It takes a step for each leg, and binary searches for both

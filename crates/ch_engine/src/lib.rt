@@ -1,8 +1,9 @@
 //! Engines: a network that is asked in the caller's own process. An engine is used by one thread at a time.
 //!
 //! It stands on ch_contract, ch_custom, ch_dissect, ch_flows, ch_graph, ch_hierarchy, ch_near, ch_order, ch_query, ch_read,
-//! ch_text, ch_tree and thiserror. It starts no thread. An [`Engine`] has a hierarchy, room for its own searches, and the
-//! places of its near rows. Other engines may share the hierarchy. These statements are proved:
+//! ch_text, ch_tree and thiserror. It starts no thread. An [`Engine`] has a hierarchy, room for its own searches, the places of
+//! its near rows, and the values of its tables of sums. Other engines may share the hierarchy and the values. These statements
+//! are proved:
 //!
 //! - [`Engine::open`] gives a hierarchy that is right for the graph that the bytes name, or an error that is true of
 //!   the bytes.
@@ -21,6 +22,7 @@ mod arrays;
 mod engine;
 mod fault;
 mod flows;
+mod kept_values;
 mod leg_sums;
 mod lines;
 mod near;

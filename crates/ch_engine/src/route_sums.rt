@@ -10,7 +10,6 @@ ghost use Rattle.ch_engine.specs.RouteSums.{AreLinesAlong, ArePairSumsWritten, I
 
 use crate::engine::Engine;
 use crate::fault::Refusal;
-use crate::leg_sums::KeptSums;
 use crate::network::Network;
 use crate::route_trees::{BothTrees, different, in_order};
 use crate::routes::weight_of;
@@ -128,13 +127,10 @@ impl Engine {
         if sources.len() / PAIRS < different(&starts).saturating_add(different(&ends)) {
             return None;
         }
-        if sources.len() < self.network.count() / WORTH && !are_kept(&self.sums, values) {
+        if sources.len() < self.network.count() / WORTH && self.known_sums(values).is_none() {
             return None;
         }
-        let Ok(()) = self.network.keep_sums(alloc, &mut self.sums, values) else {
-            return None;
-        };
-        let Some(kept) = &self.sums else {
+        let Ok(kept) = self.sums_for(alloc, values) else {
             return None;
         };
         match self
@@ -183,14 +179,6 @@ impl Network {
         ensures { arc.from ≢ arc.to → IsLineBy self.now.0 self.now.1 arc.from arc.to result }
     {
         self.line(arc.from, arc.to)
-    }
-}
-
-/// Whether the sums along all legs are kept for these values.
-fn are_kept(kept: &Option<KeptSums>, values: &[u64]) -> bool {
-    match kept {
-        Some(kept) => kept.values.as_slice() == values,
-        None => false,
     }
 }
 

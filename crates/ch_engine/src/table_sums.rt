@@ -2,13 +2,13 @@
 ghost use Rattle.std.specs.Prelude.{◌≡◌, ◌+◌, ◌*◌, ◌<◌, ◌≤◌, ℕ, List, length, slice_index, IfErr, IfOk, MatchOption, OnOk, false, true, ⊤};
 ghost use Rattle.ch_hierarchy.specs.Hierarchy.{LevelsAndLegs, nodes_of};
 ghost use Rattle.ch_engine.specs.Held.{only};
-ghost use Rattle.ch_engine.specs.LegSums.{AreKeptSums};
+ghost use Rattle.ch_engine.specs.LegSums.{AreKeptOfLines, AreKeptSums};
 ghost use Rattle.ch_engine.specs.Lines.{IsOfSome, Lines};
 ghost use Rattle.ch_engine.specs.NearRows.{StaysFrom};
-ghost use Rattle.ch_engine.specs.Refusals.{AreNodes, AreTableSumLengths, IsRefusalOfTableSums};
+ghost use Rattle.ch_engine.specs.Refusals.{AreKeptSumLists, AreNodes, AreTableSumLengths, IsCellRoom, IsRefusalOfKeptSums, IsRefusalOfTableSums};
 ghost use Rattle.ch_engine.specs.RouteSums.{IsPairSum};
 ghost use Rattle.ch_engine.specs.Routes.{IsFound};
-ghost use Rattle.ch_engine.specs.TableSums.{AreCells, AreRowSums, AreStops, AreTableSumsWritten, IsCell, IsCellEnd, IsEarly, IsRowEnd, IsWhole};
+ghost use Rattle.ch_engine.specs.TableSums.{AreCells, AreKeptSumsWritten, AreRowSums, AreStops, AreTableSumsWritten, IsCell, IsCellEnd, IsEarly, IsRowEnd, IsWhole};
 
 use crate::engine::Engine;
 use crate::fault::Refusal;
@@ -23,6 +23,7 @@ use crate::words::{NO_DISTANCE, are_both_nodes};
 use crate::written::{Summed, SumsEnd};
 use ch_query::{Route, Scratch, route};
 use std::alloc::{AllocError, Global};
+use std::sync::Arc;
 
 impl Engine {
     /// Writes the weight of the route of each cell of a table as a word, and the sum of the values on the lines of its
@@ -31,7 +32,8 @@ impl Engine {
     /// or more, or before a row for which there is no memory.
     ///
     /// Each source and each target takes one search, and a cell about the time of one of [`Engine::table`]. The sums along
-    /// all legs of the hierarchy are kept for the next call with the same values.
+    /// all legs of the hierarchy serve the next call with the same values too, which compares all values. A call of
+    /// [`Engine::kept_table_sums`] does not.
     ///
     /// # Errors
     /// `Lengths` if the lengths do not fit, otherwise `NodeRange` if a number is no node. Then nothing is written.
@@ -62,38 +64,73 @@ impl Engine {
         if !are_both_nodes(sources, targets, count) {
             return Err(Refusal::NodeRange);
         }
-        Ok(self.write_table_sums(alloc, sources, targets, values, weights, sums))
+        let Ok(kept) = self.sums_for(alloc, values) else {
+            return Ok(ended(0, SumsEnd::NoMemory));
+        };
+        Ok(self.write_table_sums(alloc, &kept, sources, targets, weights, sums))
+    }
+
+    /// Writes the same as [`Engine::table_sums`] for the values that [`Engine::keep_values`] keeps. It looks only at values
+    /// that its own searches meet, so a small table takes little more than one of [`Engine::table`].
+    ///
+    /// # Errors
+    /// `NoValues` if no values are kept, otherwise `Lengths` if the lengths do not fit, otherwise `NodeRange` if a number is no
+    /// node. Then nothing is written.
+    pub fn kept_table_sums(
+        &mut self,
+        alloc: Global,
+        sources: &[u32],
+        targets: &[u32],
+        weights: &mut [u64],
+        sums: &mut [u64],
+    ) -> Result<Summed, Refusal>
+        ensures written { IfOk result (AreKeptSumsWritten self.old sources.now targets.now weights.new sums.new) }
+        ensures behind { IfOk result (λ summed. StaysFrom summed.count weights.old weights.new × StaysFrom summed.count sums.old sums.new) }
+        ensures fit { OnOk result (AreKeptSumLists (nodes_of self.old.hierarchy) self.old.values sources.now targets.now (length weights.old) (length sums.old)) }
+        ensures refused { IfErr result (λ refusal. (weights.new ≡ weights.old) × (sums.new ≡ sums.old) × IsRefusalOfKeptSums (nodes_of self.old.hierarchy) self.old.values sources.now targets.now (length weights.old) (length sums.old) refusal) }
+        ensures same { self.new ≡ self.old }
+    {
+        let Some(kept) = &self.values else {
+            return Err(Refusal::NoValues);
+        };
+        let cells = sources.len().checked_mul(targets.len());
+        if cells != Some(weights.len()) || cells != Some(sums.len()) {
+            return Err(Refusal::Lengths);
+        }
+        let count = self.nodes();
+        if !are_both_nodes(sources, targets, count) {
+            return Err(Refusal::NodeRange);
+        }
+        let Ok(kept) = Arc::try_clone(kept) else {
+            return Ok(ended(0, SumsEnd::NoMemory));
+        };
+        Ok(self.write_table_sums(alloc, &kept, sources, targets, weights, sums))
     }
 
     fn write_table_sums(
         &mut self,
         alloc: Global,
+        kept: &KeptSums,
         sources: &[u32],
         targets: &[u32],
-        values: &[u64],
         weights: &mut [u64],
         sums: &mut [u64],
     ) -> Summed
-        requires lengths { AreTableSumLengths (length sources.now) (length targets.now) (length weights.old) (length sums.old) (length values.now) self.old.lines.count }
+        requires lengths { IsCellRoom (length sources.now) (length targets.now) (length weights.old) (length sums.old) }
         requires sources { AreNodes (nodes_of self.old.hierarchy) sources.now }
         requires targets { AreNodes (nodes_of self.old.hierarchy) targets.now }
-        requires kept { IsOfSome self.old.hierarchy self.old.lines }
-        ensures written { AreTableSumsWritten self.old sources.now targets.now values.now weights.new sums.new result }
+        requires lines { IsOfSome self.old.hierarchy self.old.lines }
+        requires kept { AreKeptOfLines self.old.hierarchy self.old.lines kept.now }
+        ensures written { AreTableSumsWritten self.old sources.now targets.now kept.now.values.items weights.new sums.new result }
         ensures behind { StaysFrom result.count weights.old weights.new × StaysFrom result.count sums.old sums.new }
         ensures same { self.new ≡ self.old }
     {
         let none = ended(0, SumsEnd::NoMemory);
         let nodes = self.nodes();
-        let Ok(()) = self.network.keep_sums(alloc, &mut self.sums, values) else {
-            return none;
-        };
         let Ok(()) = Slots::keep(alloc, &mut self.slots, nodes) else {
             return none;
         };
         let Ok(()) = TreeRoom::keep(alloc, &mut self.trees, nodes) else {
-            return none;
-        };
-        let Some(kept) = &self.sums else {
             return none;
         };
         let Some(slots) = &mut self.slots else {

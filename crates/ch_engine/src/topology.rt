@@ -1,5 +1,6 @@
 //! Topologies: what a network needs for new weights on the same arcs.
 ghost use Rattle.std.specs.Prelude.{◌≡◌, length, IfErr, IfOk, None};
+ghost use Rattle.ch_engine.specs.Held.{KeepsNothing};
 ghost use Rattle.ch_engine.specs.Topologies.{HasEndsOf, IsArraysTopologyError, IsInOrder, IsOfEnds, IsOpenedWith, IsTopologyError, IsTopologyOfArrays, IsTopologyOpened, IsUnweighedError, IsWeightsError};
 
 use crate::arrays::graph_of;
@@ -114,7 +115,7 @@ impl Engine {
         topology: &Topology,
         weights: &[u64],
     ) -> Result<Engine, OpenError>
-        ensures value { IfOk result (λ held. (held.near ≡ None) × IsOpenedWith topology.now weights.now held.hierarchy held.lines) }
+        ensures value { IfOk result (λ held. KeepsNothing held × IsOpenedWith topology.now weights.now held.hierarchy held.lines) }
         ensures error { IfErr result (IsWeightsError topology.now weights.now) }
     {
         let network = topology.roads.weighed(alloc, weights)?;

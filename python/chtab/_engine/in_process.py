@@ -315,8 +315,8 @@ class InProcess:
         return found
 
     def table_sums(
-        self, sources: Integers, targets: Integers, values: NDArray[numpy.uint64],
-    ) -> tuple[Integers, NDArray[numpy.uint64]]:
+        self, sources: Integers, targets: Integers, values: library.Unsigned,
+    ) -> library.Sums:
         """The weights of the routes from each source to each target (k, l), -1 for no walk, and the
         sums of their values; 2^64 is refused."""
         rows, columns = (library.nodes_of(nodes, self.nodes) for nodes in (sources, targets))
@@ -377,9 +377,7 @@ class InProcess:
         weights, counts, lines = (numpy.concatenate(column) for column in columns)
         return Paths(weights, numpy.maximum(counts - 1, 0), lines.astype(numpy.int64))
 
-    def sums(
-        self, pairs: Integers, values: NDArray[numpy.uint64],
-    ) -> tuple[Integers, NDArray[numpy.uint64]]:
+    def sums(self, pairs: Integers, values: library.Unsigned) -> library.Sums:
         """The weights of routes, -1 for no walk, and the sums of their values; 2^64 is refused."""
         sources, targets = self.columns(pairs)
         weights, sums = (

@@ -30,8 +30,8 @@ NAME = "libchtab.so.1"
 # The statuses of calls, as in `chtab_status` of the header.
 (
     OK, NO_MEMORY, CLOSED, IS_OPEN, NODE_RANGE, LENGTHS, TOO_LARGE, TOO_SHORT, BAD_GRAPH, BAD_SAVED,
-    WRONG_SAVED, NO_PLACES, SUM_TOO_LARGE, OTHER_NODES, FRESH_RANGE, TRIANGLES,
-) = range(16)
+    WRONG_SAVED, NO_PLACES, SUM_TOO_LARGE, OTHER_NODES, FRESH_RANGE, TRIANGLES, NO_VALUES,
+) = range(17)
 # The limit that excludes no distance, and the distance where there is no walk, which is -1 as a
 # signed number of 64 bits.
 NO_LIMIT = NO_DISTANCE = 2**64 - 1
@@ -52,6 +52,8 @@ FEW = 16
 # Nodes as the library counts them, from 0 on; and unsigned numbers.
 Nodes: TypeAlias = "NDArray[numpy.uint32]"
 Unsigned: TypeAlias = "NDArray[numpy.uint64]"
+# The weights of routes, and the sums along them.
+Sums: TypeAlias = "tuple[Integers, Unsigned]"
 NODE, NUMBER = numpy.uint32, numpy.uint64
 
 
@@ -96,7 +98,8 @@ CALLS = {
     "chtab_table": (HANDLE, *ARRAY, *ARRAY, NUMBER_64, *ARRAY),
     "chtab_routes": (HANDLE, *ARRAY, *ARRAY, COUNT, *ARRAY, *ARRAY, *ARRAY, *ARRAY),
     "chtab_route_sums": (HANDLE, *ARRAY, *ARRAY, *ARRAY, COUNT, *ARRAY, *ARRAY),
-    "chtab_table_sums": (HANDLE, *ARRAY, *ARRAY, *ARRAY, COUNT, *ARRAY, *ARRAY),
+    "chtab_keep_values": (HANDLE, *ARRAY),
+    "chtab_kept_table_sums": (HANDLE, *ARRAY, *ARRAY, COUNT, *ARRAY, *ARRAY),
     "chtab_flows_table": (HANDLE, *ARRAY, *ARRAY, *ARRAY, COUNT, *ARRAY),
     "chtab_flows": (HANDLE, *ARRAY, *ARRAY, *ARRAY, COUNT, *ARRAY),
     "chtab_near_places": (HANDLE, NUMBER_32, *ARRAY, NUMBER_64, NUMBER_32),
@@ -165,6 +168,11 @@ def address(array: NDArray[Any], kind: DTypeLike, is_written: bool = False) -> i
     if not found:
         raise ValueError("an array has no place in memory")
     return found
+
+
+def is_constant(array: Any) -> bool:
+    """Whether nobody may write to an array, nor to that of which it is a part."""
+    return array is None or memoryview(array).readonly and is_constant(getattr(array, "base", None))
 
 
 def column(array: NDArray[Any], kind: DTypeLike) -> tuple[int, int]:
@@ -245,6 +253,8 @@ class Handle(Opened):
         self.is_asked = False
         # The targets, with their limit, that `rows_to` keeps as places.
         self.targets_kept: tuple[bytes, int] | None = None
+        # The values that the library keeps, if these can't change.
+        self.values_kept: Unsigned | None = None
 
     def open(self, graph: bytes, saved: bytes | None = None) -> None:
         """Opens the network of a graph and a saved hierarchy, or of one that the library builds."""
@@ -290,7 +300,9 @@ class Handle(Opened):
     def share(self) -> Handle:
         """Makes another handle on the same network, for another thread."""
         other = Handle(self.calls)
-        see_that_done(self.ask(self.calls.chtab_share, other.at))
+        with self.lock:
+            see_that_done(self.ask(self.calls.chtab_share, other.at))
+            other.values_kept = self.values_kept
         return other
 
     def nodes(self) -> int:
@@ -377,30 +389,35 @@ class Handle(Opened):
         end = ends[-1] if len(ends) else 0
         return weights[:count.value], ends, nodes[:end], lines[:end]
 
-    def route_sums(
-        self, sources: Nodes, targets: Nodes, values: Unsigned,
-    ) -> tuple[Integers, Unsigned]:
+    def route_sums(self, sources: Nodes, targets: Nodes, values: Unsigned) -> Sums:
         """The weights of the routes of pairs, -1 for no walk, and the sums of their values."""
-        count, weights = ctypes.c_uint64(), numpy.empty(len(sources), numpy.int64)
-        sums = numpy.empty(len(sources), NUMBER)
-        see_that_done(self.ask(
-            self.calls.chtab_route_sums, column(sources, NODE), column(targets, NODE),
-            column(values, NUMBER), ctypes.byref(count), written(weights, numpy.int64),
-            written(sums, NUMBER)))
-        return weights, sums
+        given = column(sources, NODE), column(targets, NODE), column(values, NUMBER)
+        return self.sums(self.calls.chtab_route_sums, given, len(sources))
 
-    def table_sums(
-        self, sources: Nodes, targets: Nodes, values: Unsigned,
-    ) -> tuple[Integers, Unsigned]:
+    def sums(self, call: Callable[..., int], given: Any, *shape: int) -> Sums:
+        """The weights of this shape that a call writes, and the sums."""
+        count, (weights, sums) = ctypes.c_uint64(), numpy.empty((2, *shape), numpy.int64)
+        out = (written(each.reshape(-1), numpy.int64) for each in (weights, sums))
+        see_that_done(self.ask(call, *given, ctypes.byref(count), *out))
+        return weights, sums.view(NUMBER)
+
+    def keep_values(self, values: Unsigned) -> None:
+        """Keeps a value for each line of the graph. Those of an array that can't change are taken
+        once, and those of another are compared with what is kept."""
+        own = column(values, NUMBER)
+        with self.lock:
+            if self.values_kept is not values:
+                self.values_kept = None
+                see_that_done(self.ask(self.calls.chtab_keep_values, own))
+                self.values_kept = values if is_constant(values) else None
+
+    def table_sums(self, sources: Nodes, targets: Nodes, values: Unsigned) -> Sums:
         """The weights of the routes from each source to each target (k, l), -1 for no walk, and the
-        sums of their values (k, l)."""
-        shape, count = (len(sources), len(targets)), ctypes.c_uint64()
-        weights, sums = numpy.empty(shape, numpy.int64), numpy.empty(shape, NUMBER)
-        see_that_done(self.ask(
-            self.calls.chtab_table_sums, column(sources, NODE), column(targets, NODE),
-            column(values, NUMBER), ctypes.byref(count), written(weights.reshape(-1), numpy.int64),
-            written(sums.reshape(-1), NUMBER)))
-        return weights, sums
+        sums of their values (k, l), which it keeps."""
+        given, shape = (column(sources, NODE), column(targets, NODE)), (len(sources), len(targets))
+        with self.lock:
+            self.keep_values(values)
+            return self.sums(self.calls.chtab_kept_table_sums, given, *shape)
 
     def flows(
         self, sources: Nodes, targets: Nodes, demands: Unsigned, lines: int, is_table: bool = False,
@@ -501,7 +518,8 @@ REFUSED = {
     NODE_RANGE: "a node is not one of the network", LENGTHS: "the lengths of columns don't fit",
     TOO_LARGE:
         "a table has at most 65,536 sources and as many targets, and so many places are kept",
-    NO_PLACES: "no places are kept", SUM_TOO_LARGE: "a sum is 2^64 or more",
+    NO_PLACES: "no places are kept", NO_VALUES: "no values are kept",
+    SUM_TOO_LARGE: "a sum is 2^64 or more",
     OTHER_NODES: "the graph has another number of nodes",
     FRESH_RANGE: "more than 100 per cent of the nodes would be ordered afresh"}
 

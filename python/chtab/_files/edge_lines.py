@@ -1,5 +1,4 @@
-"""The lines of arcs as callers give them, such as those of shapely, and the points between their
-ends."""
+"""The lines of arcs as callers give them, such as shapely's, and the points between their ends."""
 from __future__ import annotations
 
 from collections.abc import Sequence

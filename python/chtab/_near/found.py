@@ -1,5 +1,4 @@
-"""Answers on nearness: the targets near each source in compressed form, and the nearest of them in
-columns."""
+"""Answers on nearness: the targets near each source in compressed form, or in columns."""
 from __future__ import annotations
 
 import operator

@@ -1,5 +1,4 @@
-"""Aggregates of values over near rows, such as sums and means, for several limits and columns of
-values at once."""
+"""Aggregates of values over near rows, such as sums, for several limits and columns at once."""
 from __future__ import annotations
 
 from collections.abc import Callable, Iterable, Sequence

@@ -25,8 +25,7 @@ if TYPE_CHECKING:
     from chtab.typing import Floats
 
 METHODS = MSA, FRANK_WOLFE, BI_CONJUGATE = "msa", "frank-wolfe", "bi-conjugate"
-# A step of at least this length ends the memory of earlier directions, because they have no part in
-# the flows any more.
+# A step of at least this length ends the memory of earlier directions: flows have none of them.
 WHOLE_STEP = 0.999_999
 # How near the bounds of a step's length come to each other, and the part of a flow that a
 # derivative is taken over.

@@ -24,8 +24,7 @@ if TYPE_CHECKING:
     from chtab._roads.layers import Layers
     from chtab.typing import Integers
 
-# A network of lines is said to fall apart if its largest part has less than this share of the
-# nodes.
+# A network of lines falls apart if its largest part has less than this share of the nodes.
 WHOLE = 0.9
 
 

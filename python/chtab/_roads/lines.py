@@ -23,8 +23,7 @@ if TYPE_CHECKING:
 
 # The latitudes up to which the projection is used; at the poles it is infinite.
 STEEPEST = 89.9
-# Pieces of lines whose middles are nearest to a place, among which its nearest step is looked for
-# first.
+# The pieces of lines with the nearest middles, where the nearest step is looked for first.
 NEIGHBOURS = 16
 
 

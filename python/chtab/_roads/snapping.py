@@ -255,6 +255,8 @@ class Roads:
         if self.lengths is None:
             metres = numpy.append(self.lines.metres, 0.0)[self.road_of]
             self.lengths = numpy.round(metres / NANOMETRE).astype(numpy.uint64)
+            # Handles of the library keep them, and compare nothing if they can't change.
+            self.lengths.flags.writeable = False
         return self.lengths
 
     # From places to roads.

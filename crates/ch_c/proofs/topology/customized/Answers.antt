@@ -1,7 +1,6 @@
 -- The box has the engine of the topology with these weights.
 use Rattle.std.proofs.Common.{rules, ◌≡◌, sym, subst}
-use Rattle.std.specs.Prelude.{None}
-use Rattle.ch_engine.specs.Held.{Held}
+use Rattle.ch_engine.specs.Held.{Held, KeepsNothing}
 use Rattle.ch_engine.specs.Topologies.{IsOpenedWith}
 use Rattle.ch_c.proofs.topology.customized.Goals as goal
 
@@ -9,5 +8,5 @@ pub returns-in-Ok-clause-value : goal.returns-in-Ok-clause-value
 returns-in-Ok-clause-value c =
     let held : Held = c.in_ok-engine.engine in
     let same : c.in-Ok.engine.value ≡ held = search rules in
-    subst (λ (h : Held). (h.near ≡ None) × IsOpenedWith c.args.topology.now c.args.weights.now h.hierarchy h.lines) (sym same)
+    subst (λ (h : Held). KeepsNothing h × IsOpenedWith c.args.topology.now c.args.weights.now h.hierarchy h.lines) (sym same)
     c.in_ok-engine.ensures.value
