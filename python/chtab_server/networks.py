@@ -142,7 +142,7 @@ class Served:
 
     def open_once(self) -> None:
         """Opens the network before processes are forked: they then have it in memory together."""
-        self.opened = self.engine.first_handle()
+        self.opened = self.opened_handle()
 
     def load(self) -> None:
         """Starts the engine if it is not there. A forked process takes what the first one has
@@ -151,7 +151,14 @@ class Served:
         if self.opened is not None and engine.first is None:
             engine.begin_with(self.opened)
         else:
-            engine.load()
+            self.opened_handle()
+
+    def opened_handle(self) -> Handle:
+        """The first handle of the engine, which keeps the lengths of arcs for tables of distances,
+        and so do the others, which share its network."""
+        handle = self.engine.first_handle()
+        handle.keep_values(self.network.roads.nanometres)
+        return handle
 
 
 class Networks:
