@@ -316,8 +316,8 @@ uint32_t chtab_table_sums(chtab *handle, const uint32_t *sources, size_t sources
  * Errors: CHTAB_CLOSED, CHTAB_LENGTHS, CHTAB_NO_MEMORY. Then the values that were kept stay. */
 uint32_t chtab_keep_values(chtab *handle, const uint64_t *values, size_t values_len);
 
-/* Writes what chtab_table_sums writes for the values that chtab_keep_values keeps. A small table takes little more time than
- * with chtab_table, on a network of any size.
+/* Writes what chtab_table_sums writes for the values that chtab_keep_values keeps. It does not look at all of these, so that a
+ * table takes two to four times as long as with chtab_table, on a network of any size.
  * Errors: CHTAB_CLOSED, CHTAB_NO_VALUES, CHTAB_LENGTHS, CHTAB_NODE_RANGE. With CHTAB_SUM_TOO_LARGE or CHTAB_NO_MEMORY the first
  * cells are written, as with chtab_table_sums. */
 uint32_t chtab_kept_table_sums(chtab *handle, const uint32_t *sources, size_t sources_len, const uint32_t *targets,

@@ -70,8 +70,8 @@ impl Engine {
         Ok(self.write_table_sums(alloc, &kept, sources, targets, weights, sums))
     }
 
-    /// Writes the same as [`Engine::table_sums`] for the values that [`Engine::keep_values`] keeps. It looks only at values
-    /// that its own searches meet, so a small table takes little more than one of [`Engine::table`].
+    /// Writes the same as [`Engine::table_sums`] for the values that [`Engine::keep_values`] keeps, without a look at all of
+    /// them. A table takes two to four times as long as one of [`Engine::table`], on a network of any size.
     ///
     /// # Errors
     /// `NoValues` if no values are kept, otherwise `Lengths` if the lengths do not fit, otherwise `NodeRange` if a number is no
