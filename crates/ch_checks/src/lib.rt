@@ -5,8 +5,7 @@
 //! - Pieces pass the gate as often as they should, and workers do pieces at the same time.
 //!
 //! The crate has only tests, so the crates below are proved once. It stands on ch_contract, ch_custom, ch_dissect,
-//! ch_graph, ch_hierarchy, ch_lists, ch_near, ch_order, ch_query, ch_queue, ch_read, ch_table, ch_text, ch_tree and
-//! ch_work.
+//! ch_graph, ch_hierarchy, ch_lists, ch_order, ch_query, ch_queue, ch_read, ch_rows, ch_text, ch_tree and ch_work.
 #![tactic(auto)]
 
 #[cfg(test)]

@@ -7,7 +7,7 @@ use crate::again::again;
 use crate::crew::crew;
 use crate::examples::{RING, hierarchy};
 use ch_hierarchy::Hierarchy;
-use ch_near::{Direction, NearTargets};
+use ch_rows::{Direction, NearTargets};
 use ch_work::{Open, Plan};
 use std::alloc::{AllocError, Global};
 use std::process::Abort;

@@ -7,7 +7,7 @@ use crate::again::again;
 use crate::crew::crew;
 use crate::examples::{Files, LINE, RING, hierarchy};
 use ch_hierarchy::Hierarchy;
-use ch_table::{Buckets, Table, table};
+use ch_rows::{Buckets, Table, table};
 use ch_work::{CountingGate, Gate, MeetingGate, Open, Plan};
 use std::alloc::{AllocError, Global};
 use std::process::Abort;

@@ -5,8 +5,8 @@ use Rattle.std.proofs.lemmas.Bool.{cases_lt}
 use Rattle.std.proofs.lemmas.List.{get_or_default}
 use Rattle.std.proofs.lemmas.Nat.{mul-le}
 use Rattle.std.proofs.Math.Nat.{suc-mul}
-use Rattle.ch_near.specs.Kept.{IsRowOf}
-use Rattle.ch_near.specs.Searched.{Asked}
+use Rattle.ch_rows.specs.Kept.{IsRowOf}
+use Rattle.ch_rows.specs.Searched.{Asked}
 use Rattle.ch_engine.specs.Held.{Held}
 use Rattle.ch_engine.specs.NearRows.{IsKeptRow}
 use Rattle.ch_engine.specs.Refusals.{HasValues}

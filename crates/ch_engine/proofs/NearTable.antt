@@ -3,10 +3,10 @@ use Rattle.std.proofs.Common.{◌≡◌, ℕ, ◌+◌, ◌*◌, ◌<◌, ◌≤�
 use Rattle.std.specs.Prelude.{MatchOption, ⊤}
 use Rattle.std.proofs.lemmas.Bool.{cases_lt}
 use Rattle.ch_hierarchy.specs.Hierarchy.{LevelsAndLegs}
-use Rattle.ch_near.specs.Cells.{IsCellTo}
-use Rattle.ch_near.specs.Direction.{facing}
-use Rattle.ch_near.specs.Kept.{AreCellsOf}
-use Rattle.ch_near.specs.Searched.{Asked}
+use Rattle.ch_rows.specs.Cells.{IsCellTo}
+use Rattle.ch_rows.specs.Direction.{facing}
+use Rattle.ch_rows.specs.Kept.{AreCellsOf}
+use Rattle.ch_rows.specs.Searched.{Asked}
 use Rattle.ch_engine.specs.Cells.{IsCell, IsWordOf, no_distance}
 use Rattle.ch_engine.specs.Held.{Held}
 use Rattle.ch_engine.specs.NearTable.{AreCellsAt, AreKeptCells, KeepsAll, places_of}

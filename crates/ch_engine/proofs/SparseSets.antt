@@ -9,7 +9,7 @@ use Rattle.std.proofs.lemmas.List.{get_or_append_left, get_or_past, get_or_push}
 use Rattle.std.proofs.lemmas.List.{length_push, map-append}
 use Rattle.ch_graph.specs.Rows.{AreRowsOf}
 use Rattle.ch_graph.proofs.Lists.{contains_filter, contains_filter_of, contains_map, contains_map_of, contains_none}
-use Rattle.ch_near.proofs.Pigeons.{in_holes}
+use Rattle.ch_rows.proofs.Pigeons.{in_holes}
 use Rattle.ch_engine.specs.Slots.{AreHinted, IsNamedMore, IsSlotOf, named}
 
 -- no number has two slots

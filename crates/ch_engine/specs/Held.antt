@@ -1,7 +1,7 @@
 -- The hierarchy of an engine with the lines of its legs, and what the engine keeps: its places, and the values of its lines.
 use Rattle.std.specs.Prelude.{◌≡◌, ℕ, List, Option, None, Some}
 use Rattle.ch_hierarchy.specs.Hierarchy.{LevelsAndLegs}
-use Rattle.ch_near.specs.Searched.{Asked}
+use Rattle.ch_rows.specs.Searched.{Asked}
 use Rattle.ch_engine.specs.Lines.{Lines}
 
 -- a hierarchy, the lines of its legs, what is asked of the kept places, and the kept values of the lines, if there are some

@@ -1,6 +1,6 @@
 -- Near rows, one after the other in arrays: the end of each row, and its weights and places.
 use Rattle.std.specs.Prelude.{◌≡◌, ℕ, zero, suc, ◌+◌, ◌<◌, ◌≤◌, List, length, slice_index, slice_index_or, MatchOption, ⊤}
-use Rattle.ch_near.specs.Kept.{IsRowOf}
+use Rattle.ch_rows.specs.Kept.{IsRowOf}
 use Rattle.ch_engine.specs.declared.written.End.{End}
 use Rattle.ch_engine.specs.declared.written.Written.{Written}
 use Rattle.ch_engine.specs.Held.{Held}

@@ -11,7 +11,7 @@ use Rattle.ch_engine.specs.Opened.{IsOfArrays}
 use Rattle.ch_engine.specs.declared.fault.OpenError.{OpenError}
 use Rattle.ch_engine.specs.declared.fault.Refusal.{Refusal}
 use Rattle.ch_engine.specs.NearTable.{KeepsAll, places_of}
-use Rattle.ch_near.specs.Searched.{Asked}
+use Rattle.ch_rows.specs.Searched.{Asked}
 
 -- the error is true of the bytes of a graph and of a saved hierarchy
 abbrev pub IsOpenError : List ℕ → List ℕ → OpenError → Type 0

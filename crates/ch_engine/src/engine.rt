@@ -24,8 +24,8 @@ use crate::sum_trees::TreeRoom;
 use crate::words::{are_both_nodes, word_of};
 use ch_graph::limits::MOST_LISTED;
 use ch_hierarchy::Hierarchy;
-use ch_near::KeptTargets;
 use ch_query::{Route, Scratch, distance, route};
+use ch_rows::KeptTargets;
 use ch_text::save_text;
 use ch_tree::TreeScratch;
 use std::alloc::{AllocError, Global};
@@ -59,7 +59,7 @@ impl Model for Engine {
     ghost use Rattle.std.specs.Prelude.{◌≡◌, MatchOption, length, option_map, ⊤};
     ghost use Rattle.std.specs.Arc.{arc_value};
     ghost use Rattle.ch_hierarchy.specs.Hierarchy.{nodes_of};
-    ghost use Rattle.ch_near.specs.Kept.{AreKeptIn, asked_by};
+    ghost use Rattle.ch_rows.specs.Kept.{AreKeptIn, asked_by};
     ghost use Rattle.ch_engine.specs.Held.{Held};
     ghost use Rattle.ch_engine.specs.LegSums.{AreKeptOfLines, AreKeptSums, values_of};
 

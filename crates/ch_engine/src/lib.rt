@@ -1,6 +1,6 @@
 //! Engines: a network that is asked in the caller's own process. An engine is used by one thread at a time.
 //!
-//! It stands on ch_contract, ch_custom, ch_dissect, ch_flows, ch_graph, ch_hierarchy, ch_near, ch_order, ch_query, ch_read,
+//! It stands on ch_contract, ch_custom, ch_dissect, ch_flows, ch_graph, ch_hierarchy, ch_order, ch_query, ch_read, ch_rows,
 //! ch_text, ch_tree and thiserror. It starts no thread. An [`Engine`] has a hierarchy, room for its own searches, the places of
 //! its near rows, and the values of its tables of sums. Other engines may share the hierarchy and the values. These statements
 //! are proved:

@@ -4,7 +4,7 @@ use Rattle.std.specs.declared.alloc.Global.{Global}
 use Rattle.std.specs.List.{AllZip, flat_map, slice_range, zip}
 use Rattle.std.proofs.lemmas.Grind.{flat_map-append}
 use Rattle.std.proofs.lemmas.List.{append-nil, take_more}
-use Rattle.ch_table.proofs.Gathering.{parts_of}
+use Rattle.ch_rows.proofs.Gathering.{parts_of}
 use Rattle.ch_text.specs.RowTexts.{HasRows}
 use Rattle.ch_work.proofs.PieceLists.{zipped_append}
 use Rattle.ch_work.specs.Pieces.{pieces_of, AreValues}

@@ -3,8 +3,8 @@ use Rattle.std.proofs.Common.{◌≡◌, ℕ, Bool, true, false, List}
 use Rattle.ch_graph.specs.Graph.{Network}
 use Rattle.ch_hierarchy.specs.Hierarchy.{LevelsAndLegs}
 use Rattle.ch_hierarchy.specs.Kept.{IsKept}
-use Rattle.ch_near.specs.Near.{IsNearestRow, IsWalkTo}
-use Rattle.ch_near.proofs.OneFirst.{one_first}
+use Rattle.ch_rows.specs.Near.{IsNearestRow, IsWalkTo}
+use Rattle.ch_rows.proofs.OneFirst.{one_first}
 use Rattle.ch_job.specs.declared.options.Options.{Options}
 use Rattle.ch_text.specs.NearText.{near_row_text}
 use Rattle.ch_text.proofs.OneText.{one_distance_text, one_route_text}

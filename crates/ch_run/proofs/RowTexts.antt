@@ -5,8 +5,8 @@ use Rattle.std.specs.declared.alloc.Global.{Global}
 use Rattle.std.proofs.lemmas.Slice.Zip.{AllZip-long}
 use Rattle.ch_hierarchy.specs.Hierarchy.{LevelsAndLegs}
 use Rattle.ch_work.proofs.PieceLists.{zipped_append}
-use Rattle.ch_table.specs.Table.{IsRowBy, AreGathered}
-use Rattle.ch_table.proofs.Gathering.{all_parts}
+use Rattle.ch_rows.specs.Table.{IsRowBy, AreGathered}
+use Rattle.ch_rows.proofs.Gathering.{all_parts}
 use Rattle.ch_text.specs.RowTexts.{HasRows}
 use Rattle.ch_text.specs.TableText.{row_text}
 use Rattle.ch_text.proofs.RowTexts.{lines_append}

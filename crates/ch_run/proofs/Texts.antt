@@ -11,9 +11,9 @@ use Rattle.ch_hierarchy.specs.Kept.{IsKept}
 use Rattle.ch_contract.specs.declared.measure.OrderBy.{OrderBy}
 use Rattle.ch_query.specs.declared.answer.Answer.{Answer}
 use Rattle.ch_query.specs.Replies.{IsReply}
-use Rattle.ch_near.specs.Direction.{facing}
-use Rattle.ch_near.specs.Near.{Wanted, IsNearRow, IsNearestRow}
-use Rattle.ch_near.proofs.GraphRows.{row_of_graph}
+use Rattle.ch_rows.specs.Direction.{facing}
+use Rattle.ch_rows.specs.Near.{Wanted, IsNearRow, IsNearestRow}
+use Rattle.ch_rows.proofs.GraphRows.{row_of_graph}
 use Rattle.ch_job.specs.declared.options.Options.{Options}
 use Rattle.ch_job.specs.declared.sources.Sources.{Sources}
 use Rattle.ch_text.specs.Distances.{AnswersShortly, IsDistanceText, distance_text}

@@ -2,7 +2,7 @@
 use Rattle.std.specs.Prelude.{◌≡◌, ℕ, Bool, List, flat_map}
 use Rattle.std.specs.List.{AllZip}
 use Rattle.ch_hierarchy.specs.Hierarchy.{LevelsAndLegs}
-use Rattle.ch_near.specs.Near.{IsWantedRow, Wanted}
+use Rattle.ch_rows.specs.Near.{IsWantedRow, Wanted}
 use Rattle.ch_query.specs.Replies.{IsReply}
 use Rattle.ch_text.specs.NearText.{near_row_text}
 use Rattle.ch_text.specs.Routes.{answer_text}

@@ -1,6 +1,6 @@
 -- The text of near rows by a hierarchy, which parts of a run over near rows promise.
 use Rattle.std.specs.Prelude.{ℕ, List}
-use Rattle.ch_near.specs.Near.{IsWantedRow, Wanted}
+use Rattle.ch_rows.specs.Near.{IsWantedRow, Wanted}
 use Rattle.ch_text.specs.NearText.{near_row_text}
 use Rattle.ch_text.specs.RowTexts.{HasRows}
 

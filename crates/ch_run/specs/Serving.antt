@@ -2,9 +2,9 @@
 use Rattle.std.specs.Prelude.{◌≡◌, ℕ, ◌+◌, ◌<◌, ◌≤◌, Bool, if◌then◌else◌, List, ◌++◌, length, take, map, All}
 use Rattle.std.specs.Prelude.{Option, Some, None, Result, Ok, Err, MatchResult, ⊤}
 use Rattle.ch_hierarchy.specs.Hierarchy.{nodes_of}
-use Rattle.ch_near.specs.declared.direction.Direction.{Direction}
-use Rattle.ch_near.specs.Direction.{facing}
-use Rattle.ch_near.specs.Near.{Wanted}
+use Rattle.ch_rows.specs.declared.direction.Direction.{Direction}
+use Rattle.ch_rows.specs.Direction.{facing}
+use Rattle.ch_rows.specs.Near.{Wanted}
 use Rattle.ch_read.specs.declared.request.Request.{Request}
 use Rattle.ch_read.specs.declared.request.Request.TheVariants.{Near}
 use Rattle.ch_read.specs.RequestLists.{PlaceList}

@@ -1,7 +1,7 @@
 -- The text of tables, by a hierarchy.
 use Rattle.std.specs.Prelude.{ℕ, List, Option}
 use Rattle.ch_hierarchy.specs.Hierarchy.{LevelsAndLegs}
-use Rattle.ch_table.specs.Table.{IsRowBy}
+use Rattle.ch_rows.specs.Table.{IsRowBy}
 use Rattle.ch_text.specs.RowTexts.{HasRows}
 use Rattle.ch_text.specs.TableText.{row_text}
 

@@ -1,8 +1,8 @@
 //! Runs: from the bytes of a graph and of queries, lists of nodes or requests, to the text of the
 //! answers.
 //!
-//! It stands on ch_contract, ch_custom, ch_dissect, ch_graph, ch_hierarchy, ch_job, ch_near, ch_order, ch_query,
-//! ch_read, ch_table, ch_text, ch_work and thiserror. It knows no command line. Proved of it, for every plan and gate:
+//! It stands on ch_contract, ch_custom, ch_dissect, ch_graph, ch_hierarchy, ch_job, ch_order, ch_query, ch_read,
+//! ch_rows, ch_text, ch_work and thiserror. It knows no command line. Proved of it, for every plan and gate:
 //!
 //! - After [`run_dist`] and [`run_table`] the output has taken exactly the text that the definitions
 //!   name for the bytes of the inputs. They name only one text ([`laws::one_text`]).

@@ -1,6 +1,6 @@
 //! The jobs of workers that write near rows: those of searches from the sources, and those of a sweep.
 use super::lines::LineJob;
-use ch_near::{NearRoom, NearTargets, NodeRows};
+use ch_rows::{NearRoom, NearTargets, NodeRows};
 use ch_text::push_near_row;
 use std::alloc::{AllocError, Global};
 use std::marker::Model;
@@ -14,7 +14,7 @@ pub(crate) struct SearchedLines<'n, 'a> {
 
 impl<'n, 'a> Model for SearchedLines<'n, 'a> {
     ghost use Rattle.std.specs.Prelude.{ℕ};
-    ghost use Rattle.ch_near.specs.Near.{Wanted, wanted_within};
+    ghost use Rattle.ch_rows.specs.Near.{Wanted, wanted_within};
     ghost use Rattle.ch_query.specs.Limits.{IsWithin};
 
     ghost Value = { Wanted };
@@ -27,7 +27,7 @@ impl<'n, 'a> Model for SearchedLines<'n, 'a> {
 impl<'n, 'a> LineJob for SearchedLines<'n, 'a> {
     ghost use Rattle.std.specs.Prelude.{◌<◌};
     ghost use Rattle.ch_hierarchy.specs.Hierarchy.{nodes_of};
-    ghost use Rattle.ch_near.specs.Rooms.{IsNearRoomFor};
+    ghost use Rattle.ch_rows.specs.Rooms.{IsNearRoomFor};
     ghost use Rattle.ch_run.specs.Lines.{AreNearLines};
 
     type Item = u32;
@@ -64,8 +64,8 @@ pub(crate) struct SweptLines<'n, 'a> {
 }
 
 impl<'n, 'a> Model for SweptLines<'n, 'a> {
-    ghost use Rattle.ch_near.specs.Near.{Wanted};
-    ghost use Rattle.ch_near.specs.Sweep.{AreNodeRows};
+    ghost use Rattle.ch_rows.specs.Near.{Wanted};
+    ghost use Rattle.ch_rows.specs.Sweep.{AreNodeRows};
 
     ghost Value = { Wanted };
 

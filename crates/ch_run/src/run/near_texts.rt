@@ -4,7 +4,7 @@ ghost use Rattle.ch_graph.specs.declared.limits.TheConstants.{MOST_LISTED};
 ghost use Rattle.ch_graph.specs.Graph.{Network, IsWithinLimits};
 ghost use Rattle.ch_hierarchy.specs.Hierarchy.{nodes_of};
 ghost use Rattle.ch_hierarchy.specs.Kept.{IsKept};
-ghost use Rattle.ch_near.specs.Near.{wanted_within};
+ghost use Rattle.ch_rows.specs.Near.{wanted_within};
 ghost use Rattle.ch_query.specs.Distance.{IsKeptForSome};
 ghost use Rattle.ch_query.specs.Limits.{IsWithin};
 ghost use Rattle.ch_run.specs.NearRun.{AreFewSources, AreNodeLists, nodes_of_sources};
@@ -17,7 +17,7 @@ use super::near_lines::{SearchedLines, SweptLines};
 use crate::plan::{Crew, Gate};
 use ch_contract::Hierarchy;
 use ch_job::{Options, Sources};
-use ch_near::{NearRoom, NearTargets};
+use ch_rows::{NearRoom, NearTargets};
 use std::alloc::{AllocError, Global};
 use std::marker::Model;
 use std::thread::Threads;
@@ -31,8 +31,8 @@ pub(crate) struct NearSearch<'a> {
 
 impl<'a> Model for NearSearch<'a> {
     ghost use Rattle.std.specs.Prelude.{All};
-    ghost use Rattle.ch_near.specs.Near.{Wanted};
-    ghost use Rattle.ch_near.specs.Rooms.{IsNearRoomFor};
+    ghost use Rattle.ch_rows.specs.Near.{Wanted};
+    ghost use Rattle.ch_rows.specs.Rooms.{IsNearRoomFor};
 
     ghost Value = { Wanted };
 

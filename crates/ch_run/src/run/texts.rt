@@ -17,7 +17,7 @@ use crate::plan::{Crew, Gate, Stage};
 use ch_contract::Hierarchy;
 use ch_graph::{Graph, plain_distance};
 use ch_query::{Answer, QueryJob, Scratch};
-use ch_table::gather_rows;
+use ch_rows::gather_rows;
 use ch_text::push_answer;
 use ch_work::joined;
 use std::alloc::{AllocError, Global};

@@ -2,7 +2,7 @@
 use super::lines::LineJob;
 use ch_contract::Hierarchy;
 use ch_query::{QueryJob, Scratch, Sides, answer_one, answer_with_route};
-use ch_table::RowJob;
+use ch_rows::RowJob;
 use ch_text::{push_answer, push_row};
 use std::alloc::{AllocError, Global};
 use std::marker::Model;

@@ -2,7 +2,7 @@
 use Rattle.std.proofs.Common.{◌≡◌, ◌<◌, ◌++◌, [], ℕ, List, Some, length, refl, sym, ap, ◌∙◌, subst}
 use Rattle.std.specs.Prelude.{All}
 use Rattle.ch_hierarchy.specs.Hierarchy.{nodes_of}
-use Rattle.ch_near.specs.Near.{Wanted}
+use Rattle.ch_rows.specs.Near.{Wanted}
 use Rattle.ch_text.specs.NearText.{near_row_text}
 use Rattle.ch_run.specs.Serving.{near_row_of, places_of}
 use Rattle.ch_run.proofs.Gathered.{first_answered, near_answered, none_near, one_answered, values_within}

@@ -1,6 +1,6 @@
 -- The rows by searches, or by a sweep over all nodes, are those of the graph for which the hierarchy is right.
 use Rattle.std.proofs.Common.{ap, ◌∙◌}
-use Rattle.ch_near.specs.Near.{Wanted, wanted_within}
+use Rattle.ch_rows.specs.Near.{Wanted, wanted_within}
 use Rattle.ch_run.proofs.Texts.{made_of_graph}
 use Rattle.ch_run.proofs.run.near_texts.near_by.Goals as goal
 

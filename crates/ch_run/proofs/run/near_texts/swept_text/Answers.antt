@@ -1,6 +1,6 @@
 -- The lines that the workers write are those of the rows that the sweep made.
 use Rattle.std.proofs.lemmas.Result.{IfOk-weaker}
-use Rattle.ch_near.specs.Near.{IsWantedRow}
+use Rattle.ch_rows.specs.Near.{IsWantedRow}
 use Rattle.ch_text.specs.NearText.{near_row_text}
 use Rattle.ch_run.proofs.Lines.{lines_rows}
 use Rattle.ch_run.proofs.Parts.{bytes_of}

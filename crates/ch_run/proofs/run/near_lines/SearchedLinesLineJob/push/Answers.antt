@@ -1,6 +1,6 @@
 -- The row of the search has places among the targets.
-use Rattle.ch_near.specs.Near.{wanted_within}
-use Rattle.ch_near.proofs.GraphRows.{row_places}
+use Rattle.ch_rows.specs.Near.{wanted_within}
+use Rattle.ch_rows.proofs.GraphRows.{row_places}
 use Rattle.ch_run.proofs.run.near_lines.SearchedLinesLineJob.push.Goals as goal
 
 pub push_near_row-requires : goal.push_near_row-requires

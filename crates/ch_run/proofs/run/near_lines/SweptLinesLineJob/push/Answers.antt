@@ -1,8 +1,8 @@
 -- The row of the sweep has places among the targets.
 use Rattle.std.proofs.Common.{◌<◌, sym, subst}
 use Rattle.ch_hierarchy.specs.Hierarchy.{nodes_of}
-use Rattle.ch_near.specs.Near.{Wanted}
-use Rattle.ch_near.proofs.GraphRows.{row_places}
+use Rattle.ch_rows.specs.Near.{Wanted}
+use Rattle.ch_rows.proofs.GraphRows.{row_places}
 use Rattle.ch_run.proofs.run.near_lines.SweptLinesLineJob.push.Goals as goal
 
 pub push_near_row-requires : goal.push_near_row-requires

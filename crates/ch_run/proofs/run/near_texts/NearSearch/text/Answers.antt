@@ -1,7 +1,7 @@
 -- The lines that the workers write are those of the near rows, within the limit of this call.
 use Rattle.std.proofs.Common.{subst}
 use Rattle.std.proofs.lemmas.Result.{IfOk-weaker}
-use Rattle.ch_near.specs.Near.{IsWantedRow, Wanted, wanted_within}
+use Rattle.ch_rows.specs.Near.{IsWantedRow, Wanted, wanted_within}
 use Rattle.ch_text.specs.NearText.{near_row_text}
 use Rattle.ch_run.specs.NearRows.{HasNearRows}
 use Rattle.ch_run.proofs.Lines.{lines_rows}

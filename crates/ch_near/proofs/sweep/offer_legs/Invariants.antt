@@ -1,9 +1,0 @@
--- The sums over the legs before the current one are offered.
-use Rattle.std.proofs.Common.{map, take}
-use Rattle.ch_near.specs.Offers.{AreOffered}
-use Rattle.ch_near.specs.Sums.{IsSumOf}
-use Rattle.ch_near.specs.Sweep.{entry_of_leg}
-use Rattle.ch_near.proofs.sweep.offer_legs.Given as goal
-
-abbrev pub invariant-loop-leg : goal.invariant-loop-leg
-invariant-loop-leg l = AreOffered (IsSumOf l.within (take l.leg-index (map entry_of_leg l.legs)) l.rows) l.fn.offers l.offers
