@@ -1577,8 +1577,7 @@ class Network:
         self.close()
 
 
-# The networks that this process unpickled, one for each opening, so that the tasks of a pool don't
-# each load it.
+# The networks that this process unpickled, one for each opening: a pool's tasks share it.
 REOPENED: dict[opening.Opening, Network] = {}
 MOST_REOPENED = 4
 

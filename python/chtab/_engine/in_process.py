@@ -37,8 +37,7 @@ WIDTH = 1 << 15
 SUMS, SHARED = 1 << 17, 3
 # How many cells of a table are worth a further thread, which searches from each target once more.
 WORTH = 1 << 20
-# The most pairs whose flows one call gives. Each call takes steps for all legs of the network,
-# which that many pairs hide.
+# The most pairs whose flows one call gives. They hide its steps for all legs of the network.
 FLOWS = 1 << 17
 # How many nodes of routes have room at first.
 ROOM = 1 << 16

@@ -12,8 +12,7 @@ import weakref
 from collections.abc import Callable
 from typing import Any, TypeVar
 
-# From this many searches on, a call gets a thread. On a country of 24 million nodes that many take
-# less than half a second.
+# From this many searches on, a call gets a thread. On a country they take under half a second.
 LONG = 1 << 8
 # Seconds between two checks whether the thread is still there, because it may have had no memory to
 # start, or to report its end.

@@ -32,8 +32,7 @@ NAME = "libchtab.so.1"
     OK, NO_MEMORY, CLOSED, IS_OPEN, NODE_RANGE, LENGTHS, TOO_LARGE, TOO_SHORT, BAD_GRAPH, BAD_SAVED,
     WRONG_SAVED, NO_PLACES, SUM_TOO_LARGE, OTHER_NODES, FRESH_RANGE, TRIANGLES, NO_VALUES,
 ) = range(17)
-# The limit that excludes no distance, and the distance where there is no walk, which is -1 as a
-# signed number of 64 bits.
+# The limit that excludes no distance, and the distance where there is no walk: -1 if signed.
 NO_LIMIT = NO_DISTANCE = 2**64 - 1
 # The number of places of a near row that excludes none; the line for a node that no arc leads to.
 ALL = NO_LINE = 2**32 - 1

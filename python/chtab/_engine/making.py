@@ -29,8 +29,7 @@ if TYPE_CHECKING:
 GRAPH, SAVED, COORDINATES, BENDS, LABELS = (
     "network.gr", "network.ch", "network.co", "network.bends", "network.json")
 NAMES, STREETS, WAYS = "network.nodes", "network.names", "network.ways"
-# The file of the order in which its weights are customized, in the folder of a network for which
-# `customizable` was called.
+# The file of the order in which weights are customized, where `customizable` was called.
 ORDER = "network.order"
 # The text of a hierarchy mostly has fewer bytes than this for each node and arc.
 BYTES = 64

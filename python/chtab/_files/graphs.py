@@ -19,8 +19,7 @@ if TYPE_CHECKING:
 # The units of weights that a comment of a graph may name, each with the unit for people and how
 # many of the first make one of it.
 UNITS = {"milliseconds": ("min", 60_000), "metres": ("km", 1_000)}
-# Comments about nodes where turns are restricted (docs/MAPS.md): the node where trips to a node
-# end, and copies of a node.
+# Comments on restricted turns (docs/MAPS.md): where trips to a node end, and a node's copies.
 END = re.compile(r"Trips to node (\d+) end at node (\d+)\.")
 COPY = re.compile(r"Node (\d+) is node (\d+), as some turns come to it\.")
 

@@ -32,8 +32,7 @@ LENGTHS = {"metres": 1, "kilometres": 1_000}
 # The units that a comment of a graph may name, with the units in which callers may want answers.
 TIME, LENGTH = "milliseconds", "metres"
 BASES = {TIME: TIMES, LENGTH: LENGTHS}
-# How many of a graph's weights make a metre of a caller's lengths, which are rounded to
-# millimetres.
+# How many of a graph's weights make a metre of lengths, which are rounded to millimetres.
 FINE = 1_000
 
 

@@ -25,8 +25,7 @@ if TYPE_CHECKING:
 LENGTH, PAIRS = 2**16, 2**26
 # How many blocks are under way for each thread of a cluster.
 AHEAD = 2
-# A function that makes the value of a block from its portions of rows; blocks with their values, as
-# they are completed.
+# What makes the value of a block from its portions of rows; completed blocks with their values.
 Make: TypeAlias = "Callable[[Block, Iterable[tuple[int, near_rows.Rows]]], Any]"
 Made: TypeAlias = "Generator[tuple[Block, Any], None, None]"
 

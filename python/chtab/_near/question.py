@@ -26,8 +26,7 @@ TOGETHER, SHORT = 1 << 13, 1 << 9
 # A sweep may have this many pairs of 16 bytes each, or this many for each node. A call therefore
 # takes much more than a second only in networks of many millions of nodes.
 SWEPT, FEW = 1 << 24, 4
-# From this share of the nodes as sources on, all rows are swept, because a sweep takes as long as
-# that many searches.
+# From this share of the nodes as sources on, all rows are swept: a sweep takes no longer.
 SHARE = 1 / 4
 # How many sources are sampled to estimate the pairs of all rows.
 SAMPLE = 64

@@ -21,8 +21,7 @@ if TYPE_CHECKING:
     from chtab.typing import Floats, Integers, Weights
 
 LINEAR, EXPONENTIAL = "linear", "exponential"
-# The decay as callers give it; the shares of values at weights within a limit; and the state of an
-# aggregate.
+# The decay as callers give it; shares of values within a limit; the state of an aggregate.
 Decay: TypeAlias = str | Callable[[Any], Any] | None
 Share: TypeAlias = Callable[[Any, Any], Any]
 State: TypeAlias = "Sequence[NDArray[Any]]"

@@ -27,8 +27,7 @@ if TYPE_CHECKING:
 METHODS = MSA, FRANK_WOLFE, BI_CONJUGATE = "msa", "frank-wolfe", "bi-conjugate"
 # A step of at least this length ends the memory of earlier directions: flows have none of them.
 WHOLE_STEP = 0.999_999
-# How near the bounds of a step's length come to each other, and the part of a flow that a
-# derivative is taken over.
+# How near the bounds of a step's length come, and the part of a flow for a derivative.
 NEAR, DIFFERENCE = 1e-13, 1e-6
 
 
