@@ -234,7 +234,7 @@ def test_a_lack_of_memory_is_told_and_over():
 
         def is_told():
             count, before, _ = 0, resource.getrlimit(resource.RLIMIT_AS), network.distances([(1, 2)])
-            for spare, (call, owed) in itertools.product(range(4_000_000, 90_000_000, 20_000_000), zip(calls, wanted)):
+            for spare, (call, owed) in itertools.product(range(4_000_000, 90_000_000, 10_000_000), zip(calls, wanted)):
                 held = int(pathlib.Path("/proc/self/statm").read_text().split()[0]) * resource.getpagesize()
                 resource.setrlimit(resource.RLIMIT_AS, (held + spare, before[1]))
                 try:
@@ -245,7 +245,7 @@ def test_a_lack_of_memory_is_told_and_over():
                 finally:
                     resource.setrlimit(resource.RLIMIT_AS, before)
                 assert numpy.array_equal(call(), owed)
-            return count > 0
+            return count > 4
 
         assert forked(is_told)
 

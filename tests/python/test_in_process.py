@@ -93,8 +93,8 @@ def test_a_table_of_sums_is_that_of_the_values_given():
     """Also of an array that was written to since, of a part of one, and of others behind one that can't change, which is taken once. What is refused
     leaves right answers, and a shared handle has what the first one keeps."""
     handle, (sources, targets), own = handle_of(), columns_of([0, 2], [1, 2]), numpy.array([3, 4], numpy.uint64)
-    part, fixed, names = own[:], own.copy(), []
-    part.flags.writeable = fixed.flags.writeable = False
+    part, fixed, names = own[:], numpy.frombuffer(own.tobytes(), numpy.uint64), []
+    part.flags.writeable = False
 
     def sums_of(values, asked=handle):
         names.clear()
@@ -110,6 +110,12 @@ def test_a_table_of_sums_is_that_of_the_values_given():
         assert sums_of(values) == [first, first + 4] and names == ["chtab_keep_values", "chtab_kept_table_sums"]
     assert sums_of(fixed) == sums_of(fixed) == [3, 7] and names == ["chtab_kept_table_sums"]
     assert sums_of(fixed, handle.share()) == [3, 7] and names == ["chtab_kept_table_sums"]
+    locked = own.copy()
+    for first in 5, 6:
+        locked.flags.writeable = True
+        locked[0] = first
+        locked.flags.writeable = False
+        assert sums_of(locked) == [first, first + 4]
     for length in 0, 1, 3:
         raises(ValueError, handle.table_sums, sources, targets, numpy.zeros(length, numpy.uint64), told="lengths")
         assert sums_of(fixed) == [3, 7]

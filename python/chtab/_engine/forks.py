@@ -63,5 +63,4 @@ class computed_once(Generic[Value]):
         return kept
 
 
-os.register_at_fork(
-    before=prepare, after_in_parent=go_on, after_in_child=leave_parents)
+os.register_at_fork(before=prepare, after_in_parent=go_on, after_in_child=leave_parents)

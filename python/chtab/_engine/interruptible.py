@@ -14,8 +14,7 @@ from typing import Any, TypeVar
 
 # From this many searches on, a call gets a thread. On a country they take under half a second.
 LONG = 1 << 8
-# Seconds between two checks whether the thread is still there, because it may have had no memory to
-# start, or to report its end.
+# Seconds between two checks that the thread is there: it may lack memory to start or to report.
 PATIENCE = 1.0
 
 Value = TypeVar("Value")

@@ -170,8 +170,10 @@ def address(array: NDArray[Any], kind: DTypeLike, is_written: bool = False) -> i
 
 
 def is_constant(array: Any) -> bool:
-    """Whether nobody may write to an array, nor to that of which it is a part."""
-    return array is None or memoryview(array).readonly and is_constant(getattr(array, "base", None))
+    """Whether nobody can write to an array. An owner of numbers can become writable again."""
+    if isinstance(array, numpy.ndarray):
+        return not array.flags.writeable and is_constant(array.base)
+    return array is not None and memoryview(array).readonly
 
 
 def column(array: NDArray[Any], kind: DTypeLike) -> tuple[int, int]:

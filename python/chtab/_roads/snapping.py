@@ -254,9 +254,9 @@ class Roads:
         """The length of the road of each arc in whole nanometres, 0 for an arc along no road."""
         if self.lengths is None:
             metres = numpy.append(self.lines.metres, 0.0)[self.road_of]
-            self.lengths = numpy.round(metres / NANOMETRE).astype(numpy.uint64)
-            # Handles of the library keep them, and compare nothing if they can't change.
-            self.lengths.flags.writeable = False
+            whole = numpy.round(metres / NANOMETRE).astype(numpy.uint64)
+            # Handles of the library keep them, and compare nothing where nobody can write to them.
+            self.lengths = numpy.frombuffer(whole.tobytes(), numpy.uint64)
         return self.lengths
 
     # From places to roads.
