@@ -317,7 +317,7 @@ uint32_t chtab_table_sums(chtab *handle, const uint32_t *sources, size_t sources
 uint32_t chtab_keep_values(chtab *handle, const uint64_t *values, size_t values_len);
 
 /* Writes what chtab_table_sums writes for the values that chtab_keep_values keeps. It does not look at all of these, so that a
- * table takes two to four times as long as with chtab_table, on a network of any size.
+ * table takes about twice as long as with chtab_table, on a network of any size.
  * Errors: CHTAB_CLOSED, CHTAB_NO_VALUES, CHTAB_LENGTHS, CHTAB_NODE_RANGE. With CHTAB_SUM_TOO_LARGE or CHTAB_NO_MEMORY the first
  * cells are written, as with chtab_table_sums. */
 uint32_t chtab_kept_table_sums(chtab *handle, const uint32_t *sources, size_t sources_len, const uint32_t *targets,
@@ -369,6 +369,17 @@ uint32_t chtab_near_sweep(chtab *handle);
  * row. */
 uint32_t chtab_near_rows(chtab *handle, const uint32_t *sources, size_t sources_len, uint64_t *rows, uint64_t *ends,
                          size_t ends_len, uint64_t *weights, size_t weights_len, uint32_t *places, size_t places_len);
+
+/* Writes the near rows of sources as chtab_near_rows does, and for each pair the sum of the values that chtab_keep_values keeps:
+ * sums[j] is that along the route of the pair at weights[j] and places[j], in the direction of chtab_near_places. Routes are
+ * those of chtab_routes. sums_len is places_len. The call takes one more search for each source, and one for each place that a
+ * row has for the first time. What these find stays with the places until other places or other values are kept.
+ * Errors: CHTAB_CLOSED, CHTAB_NO_VALUES, CHTAB_LENGTHS, CHTAB_NO_PLACES, CHTAB_NODE_RANGE. With CHTAB_TOO_SHORT,
+ * CHTAB_SUM_TOO_LARGE or CHTAB_NO_MEMORY the first rows are written, and `rows` is their number: there is not enough room for
+ * the next row, one of its sums is 2^64 or more, or there is no memory for it. */
+uint32_t chtab_kept_near_sums(chtab *handle, const uint32_t *sources, size_t sources_len, uint64_t *rows, uint64_t *ends,
+                              size_t ends_len, uint64_t *weights, size_t weights_len, uint32_t *places, size_t places_len,
+                              uint64_t *sums, size_t sums_len);
 
 /* Writes sums over the near rows of sources, and the number of sources to `rows`. sums[i * limits_len + j] is for sources[i]
  * the sum of the values of the places whose distances are at most limits[j]. values[p] is the value of place p, in the order

@@ -8,6 +8,7 @@
 - Each fault of each line, and of the end; it ends the run though more could come. Numbers, lines and tables at their limits.
 - The roads of Liechtenstein: 100,000 queries, and tables among queries, with routes, within a limit, by a saved hierarchy and by any number
   of workers, have the answers of `dist` and `table`. So have 10,000 near rows those of `near`.
+- New weights by hand, and a fifth of STREAMS streams with new weights, of which routes are compared with those of `dist`.
 - STREAMS streams (1,000) on random graphs, drawn from the seed and cut at random; half of them are mutated, and some of the others are also
   compared with runs of `dist`, `table` and `near` request by request.
 - Where the graph or the saved hierarchy is refused the requests are left to the next reader.
@@ -26,7 +27,8 @@ from collections import Counter
 from pathlib import Path
 
 from helpers.asking import Conversation, apart, run_before_leaving, run_by_parts
-from helpers.requests_by_hand import FAULTS, FAULTS_OF_THE_END, HUGE, SOUND
+from helpers.new_weights import check_weighed, check_weights
+from helpers.requests_by_hand import FAULTS, FAULTS_OF_THE_END, HUGE, LINE, SOUND
 from helpers.running import ROOT, Answer, Count, agrees, build, run, side_by_side
 from helpers.streams import FOR_ALL, FOR_QUERIES, FOR_TABLES, Drawn, drawn_requests, stream_of, words_of
 from helpers.writing import write_graph, write_list, write_queries
@@ -35,8 +37,7 @@ from oracles.requesting import Answers, Near, Places, Query, Route, Table, told
 
 GRAPH = ROOT / "examples" / "liechtenstein.gr"
 
-# Three nodes on a line; and a line of many nodes, whose ends are nearly as far from each other as may be.
-LINE = 3, [(1, 2, 4), (2, 3, 5)]
+# The order and the legs of a hierarchy of the line; and a line of many nodes, whose ends are nearly as far from each other as may be.
 LINE_HIERARCHY = [1, 2, 3], [[1, 2, 4, 1, 0], [2, 3, 5, 1, 0]]
 WIDE = 1024, [(node, node + 1, 2**50) for node in range(1, 1024)]
 WIDEST = 1023 * 2**50
@@ -432,10 +433,11 @@ def main():
     with tempfile.TemporaryDirectory() as place:
         folder = Path(place)
         write_files(folder)
-        for check in (check_cuts, check_questions, check_lines, check_going_on, check_widest, check_many, check_roads, check_near_rows, check_unread,
-                      check_memory, check_leaving):
+        for check in (check_cuts, check_questions, check_lines, check_going_on, check_weighed, check_widest, check_many, check_roads,
+                      check_near_rows, check_unread, check_memory, check_leaving):
             check(tally, folder)
     check_streams(tally, how_many, seed)
+    check_weights(tally, how_many // 5, seed)
     tally.finish()
 
 

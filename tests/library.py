@@ -369,6 +369,32 @@ def refuse_kept_sums(tally, library):
     tally.expect([library.close(each) for each in (handle, other, new)] == [0] * 3 and library.topology_close(topology) == 0, "handles with values close")
 
 
+def refuse_summed_rows(tally, library):
+    """Near rows with sums: kept values come before lengths, these before places, and these before nodes. A row that has no room or too large a sum is left
+    out, and so are those behind it. Other values and other places count at once."""
+    status, handle, _ = library.open(LINE, OF_LINE)
+    half = 2**63
+    tally.expect(library.kept_near_sums(handle, [9], 2, 1) == (STATUS["NO_VALUES"], 7, [7], [7, 7], [7], [7, 7]), "no values are kept for near rows")
+    tally.expect(library.keep_values(handle, [half, half - 1]) == 0, "values for near rows")
+    tally.expect(library.kept_near_sums(handle, [9], 2, 1)[0] == STATUS["LENGTHS"], "lengths come before places")
+    tally.expect(library.kept_near_sums(handle, [9], 1) == (STATUS["NO_PLACES"], 7, [7], [7], [7], [7]), "no places are kept")
+    tally.expect(library.near_places(handle, [2, 1]) == 0, "places for sums")
+    for sources, rooms, name in ([0], (2, 1, 1, 2), "LENGTHS"), ([0], (2, 2, 0, 2), "LENGTHS"), ([0], (2, 2, 1, 1), "LENGTHS"), ([3], (2, 2, 1, 2), "NODE_RANGE"):
+        told = library.kept_near_sums(handle, sources, *rooms)
+        tally.expect(told == (STATUS[name], 7, *([7] * length for length in (rooms[2], rooms[0], rooms[1], rooms[3]))), f"near rows with sums {sources} {rooms}: {told}")
+    owed = (0, 2, [2, 4], [4, 9, 0, 5], [1, 0, 1, 0], [half, 2**64 - 1, 0, half - 1])
+    tally.expect(library.kept_near_sums(handle, [0, 1], 4) == owed, "near rows with sums")
+    tally.expect(library.kept_near_sums(handle, [0, 1], 3) == (STATUS["TOO_SHORT"], 1, [2, 7], [4, 9, 7], [1, 0, 7], [half, 2**64 - 1, 7]), "room for one row")
+    tally.expect(library.keep_values(handle, [half, half]) == 0, "values in place of others")
+    told = library.kept_near_sums(handle, [1, 0], 4)
+    tally.expect(told == (STATUS["SUM_TOO_LARGE"], 1, [2, 7], [0, 5, 7, 7], [1, 0, 7, 7], [0, half, 7, 7]), f"a row with a sum that is too large: {told}")
+    tally.expect(library.near_places(handle, [1, 0], is_from=1) == 0 and library.near_sweep(handle) == 0, "other places")
+    told = library.kept_near_sums(handle, [2, 0], 3)
+    tally.expect(told[0] == STATUS["SUM_TOO_LARGE"] and library.kept_near_sums(handle, [1, 0], 3) == (0, 2, [2, 3], [0, 4, 0], [0, 1, 1], [0, half, 0]), f"from places: {told}")
+    tally.expect(library.kept_near_sums(Handle(), [9], 2, 1)[0] == STATUS["CLOSED"], "near rows with sums by a closed handle")
+    library.close(handle)
+
+
 def refuse_large_flows(tally, library):
     """A flow of more than 2^63 refuses all flows, also after others were given, and 2^63 is given. Lengths come before nodes."""
     status, handle, _ = library.open(LINE, OF_LINE)
@@ -537,6 +563,7 @@ def main():
     refuse_large_route_sums(tally, library)
     refuse_large_table_sums(tally, library)
     refuse_kept_sums(tally, library)
+    refuse_summed_rows(tally, library)
     refuse_large_flows(tally, library)
     refuse_quickly(tally, library)
     refuse_likes(tally, library)

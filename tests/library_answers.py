@@ -5,6 +5,7 @@ Makes the library where that is needed. Answers are those of the program and of 
 an independent program. Four threads, with a handle each, answer what one does. The last line is 'N passed, N failed'.
 """
 import itertools
+import math
 import random
 import re
 import tempfile
@@ -157,8 +158,27 @@ def compare_random_kept_sums(tally, library):
                 sums = [sum(values[line] for line in lines[begin + 1:end]) for begin, end in zip([0, *ends], ends)]
                 told = library.keep_values(handle, values), library.kept_table_sums(handle, every, every)
                 tally.expect(away == owed and told == (0, (0, len(owed), owed, sums)), f"sums of kept values on graph {seed}")
+                compare_summed_rows(tally, library, handle, owed, sums, draw, f"graph {seed}")
             tally.expect(library.close(handle) == 0, f"graph {seed} closes")
         library.topology_close(topology)
+
+
+def compare_summed_rows(tally, library, handle, away, sums, draw, name):
+    """Near rows with the sums of the kept values, in both directions, of places that repeat: weights and sums are those of the table of all nodes, also in
+    a second call, which finds no tree of a place again, and after the sweep."""
+    nodes = math.isqrt(len(away))
+    for is_from in 0, 1, 0:
+        places, most = [draw.randrange(nodes) for _ in range(draw.randrange(9))] if nodes else [], draw.choice([ALL, 1, 3])
+        limit = draw.choice([NO_DISTANCE, *(weight for weight in away if weight != NO_DISTANCE)])
+        tally.expect(library.near_places(handle, places, limit, most, is_from) == 0, f"places for sums on {name}")
+        cells = [[target * nodes + source if is_from else source * nodes + target for target in places] for source in range(nodes)]
+        rows = [sorted((away[cell], place, sums[cell]) for place, cell in enumerate(row) if away[cell] <= limit and away[cell] != NO_DISTANCE)[:most] for row in cells]
+        pairs = [pair for row in rows for pair in row]
+        columns = [list(column) for column in zip(*pairs)] or [[], [], []]
+        owed = 0, nodes, list(itertools.accumulate(map(len, rows))), *columns
+        for sweep in False, False, True:
+            told = sweep and library.near_sweep(handle), library.kept_near_sums(handle, range(nodes), len(pairs))
+            tally.expect(told == (0, owed), f"near rows with sums on {name}: {told} for {owed}")
 
 
 def compare_flows(tally, library, graph, hierarchy):

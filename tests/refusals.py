@@ -33,14 +33,16 @@ from helpers.running import PROGRAM, ROOT, SECONDS, Answer, Count, agrees, build
 from oracles.reading import read
 from oracles.rules import text_customized, text_like, text_quick
 
-# Requests on a line and on a star, each with its answer.
+# Requests on a line and on a star, each with its answer, and new weights of the line, which have none.
 LINE_ASKED = [(b"q 1 3\n", b"d 1 3 9\n"), (b"q 3 1\n", b"d 3 1 -\n"), (b"c\nt 2 2\ns 1\ns 3\n\ns 3\ns 2\n", b"t 1 9 4\nt 3 0 -\n"),
               (b"t 0 1\ns 1\n", b""), (b"q 2 3\n", b"d 2 3 5\n"), (b"t 1 1\ns 2\ns 1\n", b"t 2 -\n"), (b"p 2 1\ns 3\ns 2\n", b""),
               (b"n 1\n", b"n 1 1 2 4\n"), (b"r 1 2\n", b"d 1 2 4\nr 1\na 1 2 4\n"), (b"n 3 0\n", b"n 3 1 3 0\n"), (b"t 1 1 8\ns 1\ns 3\n", b"t 1 -\n")]
 STAR_ASKED = [(b"q 3 4\n", b"d 3 4 2\nr 2\na 3 1 1\na 1 4 1\n"), (b"t 1 2\ns 3\ns 2\ns 1\n", b"t 3 2 1\n"),
               (b"q 4 2\n", b"d 4 2 2\nr 2\na 4 1 1\na 1 2 1\n")]
+LINE_WEIGHED = [(b"p 1 0\ns 3\n", b""), (b"n 1\n", b"n 1 1 3 9\n"), (b"w 2\na 1 2 40\na 2 3 1\n", b""), (b"n 1\n", b"n 1 1 3 41\n"),
+                (b"t 1 1\ns 2\ns 3\n", b"t 2 1\n"), (b"w 1\na 1 2 2\n", b""), (b"q 1 3\n", b"d 1 3 3\n")]
 
-ASKED = {"line.txt": LINE_ASKED, "star.txt": STAR_ASKED}
+ASKED = {"line.txt": LINE_ASKED, "star.txt": STAR_ASKED, "weighed.txt": LINE_WEIGHED}
 # 66 rings of three nodes each. Workers share a job of building only if it has 64 nodes, and here each round has one of each ring.
 RINGS = [(ring + place, ring + (place + 1) % 3, 1) for ring in range(1, 199, 3) for place in range(3)]
 # The arcs of a star.
@@ -120,7 +122,7 @@ ASKS = {
     "requests for routes": (["ask", "--routes", "star.gr"], STAR_ASKED),
     "requests like an order": (["ask", "--like", "line.ch", "line.gr"], LINE_ASKED),
     "requests for routes by a saved hierarchy": (["ask", "--routes", "--saved", "star.ch", "star.gr"], STAR_ASKED),
-    "requests by customization": (["ask", "--customizable", "line.gr"], LINE_ASKED),
+    "requests by customization": (["ask", "--customizable", "line.gr"], [*LINE_ASKED, *LINE_WEIGHED]),
 }
 
 # The words that save a hierarchy that is built quickly, with enough nodes for several workers.
@@ -150,6 +152,7 @@ RUNS = {
     "requests": (["ask"], {"graph": "line.gr", "requests": "line.txt"}, answers_of(LINE_ASKED)),
     "requests by a saved hierarchy": (["ask"], {"graph": "line.gr", "saved": "line.ch", "requests": "line.txt"}, answers_of(LINE_ASKED)),
     "requests for routes": (["ask", "--routes"], {"graph": "star.gr", "requests": "star.txt"}, answers_of(STAR_ASKED)),
+    "requests by customization": (["ask", "--customizable"], {"graph": "line.gr", "requests": "weighed.txt"}, answers_of(LINE_WEIGHED)),
 }
 
 # The errors of the system, as <errno.h> of Linux has them.

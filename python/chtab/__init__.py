@@ -30,11 +30,8 @@ __all__ = [
 
 # Imported when they are first used, because code that only reads files doesn't need numpy.
 LATER = {
-    "Near": "chtab._near.found",
-    "Network": "chtab.network",
-    "Routes": "chtab._roads.routes",
-    "Spots": "chtab._roads.snapping",
-}
+    "Near": "chtab._near.found", "Network": "chtab.network", "Routes": "chtab._roads.routes",
+    "Spots": "chtab._roads.snapping"}
 
 
 # Hidden from type checkers, so that they find misspelt names.

@@ -44,7 +44,7 @@ from chtab._roads.layers import layers_of
 from chtab._roads.routes import Routes, TripRoutes
 from chtab._roads.snapping import Roads, Spots, metres_in, places_in, see_that_near
 from chtab._roads.trips import Trips, limits_in
-from chtab.typing import Direction
+from chtab.typing import Direction, Path
 
 if TYPE_CHECKING:
     import distributed
@@ -129,11 +129,10 @@ class Network:
     @classmethod
     @with_hints
     def open(
-        cls, graph: str | os.PathLike, saved: str | os.PathLike | None = None, *,
-        coordinates: str | os.PathLike | None = None, bends: str | os.PathLike | None = None,
-        unit: str | None = None, scale: float | None = None, raw: bool = False,
-        program: str | os.PathLike | None = None, workers: int = 1, timeout: float | None = None,
-        load: bool = True, library: str | os.PathLike | bool | None = None,
+        cls, graph: Path, saved: Path | None = None, *, coordinates: Path | None = None,
+        bends: Path | None = None, unit: str | None = None, scale: float | None = None,
+        raw: bool = False, program: Path | None = None, workers: int = 1,
+        timeout: float | None = None, load: bool = True, library: Path | bool | None = None,
     ) -> Self:
         """Loads a graph, and returns once it can answer: after building its hierarchy, or after
         checking the one in `saved`.
@@ -198,11 +197,10 @@ class Network:
         cls, sources: ArrayLike, targets: ArrayLike, weights: ArrayLike, *,
         nodes: ArrayLike | None = None, x: ArrayLike | None = None, y: ArrayLike | None = None,
         scale: float | None = None, unit: str | None = None, both_ways: bool | ArrayLike = False,
-        geometry: ArrayLike | None = None, raw: bool = False,
-        folder: str | os.PathLike | None = None, like: Network | None = None, fresh: int = 5,
-        progress: Progress = None,
-        program: str | os.PathLike | None = None, workers: int = 1, timeout: float | None = None,
-        load: bool = True, library: str | os.PathLike | bool | None = None,
+        geometry: ArrayLike | None = None, raw: bool = False, folder: Path | None = None,
+        like: Network | None = None, fresh: int = 5, progress: Progress = None,
+        program: Path | None = None, workers: int = 1, timeout: float | None = None,
+        load: bool = True, library: Path | bool | None = None,
     ) -> Self:
         """Makes a network of arcs: arc k leads from `sources[k]` to `targets[k]`, and its weight is
         `weights[k]`.
@@ -282,10 +280,9 @@ class Network:
         weight: str = "weight", *, geometry: str | None = None, nodes: ArrayLike | None = None,
         x: ArrayLike | None = None, y: ArrayLike | None = None, scale: float | None = None,
         unit: str | None = None, both_ways: bool | str | ArrayLike = False, raw: bool = False,
-        folder: str | os.PathLike | None = None, like: Network | None = None, fresh: int = 5,
-        progress: Progress = None, program: str | os.PathLike | None = None, workers: int = 1,
-        timeout: float | None = None, load: bool = True,
-        library: str | os.PathLike | bool | None = None,
+        folder: Path | None = None, like: Network | None = None, fresh: int = 5,
+        progress: Progress = None, program: Path | None = None, workers: int = 1,
+        timeout: float | None = None, load: bool = True, library: Path | bool | None = None,
     ) -> Self:
         """Makes a network of a frame with a row for each arc, such as a DataFrame of pandas.
 
@@ -331,11 +328,10 @@ class Network:
     def from_networkx(
         cls, graph: networkx.Graph, weight: str = "travel_time", scale: float | str | None = "auto",
         *, unit: str | None = None, x: str | None = "x", y: str | None = "y",
-        geometry: str | None = "geometry", raw: bool = False,
-        folder: str | os.PathLike | None = None, like: Network | None = None, fresh: int = 5,
-        progress: Progress = None, program: str | os.PathLike | None = None, workers: int = 1,
-        timeout: float | None = None, load: bool = True,
-        library: str | os.PathLike | bool | None = None,
+        geometry: str | None = "geometry", raw: bool = False, folder: Path | None = None,
+        like: Network | None = None, fresh: int = 5, progress: Progress = None,
+        program: Path | None = None, workers: int = 1, timeout: float | None = None,
+        load: bool = True, library: Path | bool | None = None,
     ) -> Self:
         """Makes a network of a graph of networkx, such as one of osmnx as it is, simplified or not.
 
@@ -391,11 +387,10 @@ class Network:
         cls, edges: geopandas.GeoDataFrame, nodes: geopandas.GeoDataFrame | None = None,
         source: str = "u", target: str = "v", weight: str | None = None, *,
         scale: float | None = None, unit: str | None = None,
-        both_ways: bool | str | ArrayLike = False, raw: bool = False,
-        folder: str | os.PathLike | None = None, like: Network | None = None, fresh: int = 5,
-        progress: Progress = None, program: str | os.PathLike | None = None, workers: int = 1,
-        timeout: float | None = None, load: bool = True,
-        library: str | os.PathLike | bool | None = None,
+        both_ways: bool | str | ArrayLike = False, raw: bool = False, folder: Path | None = None,
+        like: Network | None = None, fresh: int = 5, progress: Progress = None,
+        program: Path | None = None, workers: int = 1, timeout: float | None = None,
+        load: bool = True, library: Path | bool | None = None,
     ) -> Self:
         """Makes a network of a GeoDataFrame with a line for each arc, such as `osmnx.graph_to_gdfs`
         gives, or a layer of roads.
@@ -442,10 +437,9 @@ class Network:
         cls, matrix: scipy.sparse.spmatrix, *, nodes: ArrayLike | None = None,
         x: ArrayLike | None = None, y: ArrayLike | None = None, scale: float | None = None,
         unit: str | None = None, both_ways: bool = False, raw: bool = False,
-        folder: str | os.PathLike | None = None, like: Network | None = None, fresh: int = 5,
-        progress: Progress = None, program: str | os.PathLike | None = None, workers: int = 1,
-        timeout: float | None = None, load: bool = True,
-        library: str | os.PathLike | bool | None = None,
+        folder: Path | None = None, like: Network | None = None, fresh: int = 5,
+        progress: Progress = None, program: Path | None = None, workers: int = 1,
+        timeout: float | None = None, load: bool = True, library: Path | bool | None = None,
     ) -> Self:
         """Makes a network of a sparse matrix, as `scipy.sparse.csgraph` takes it: what is stored in
         row i and column j is the arc from i to j.
@@ -481,7 +475,7 @@ class Network:
         self, weights: ArrayLike | Mapping | pandas.Series | None = None,
         closed: Iterable | ArrayLike | None = None,
         added: Iterable | pandas.DataFrame | None = None, *,
-        folder: str | os.PathLike | None = None, fresh: int = 5,
+        folder: Path | None = None, fresh: int = 5,
     ) -> Self:
         """Makes a network with the same nodes, labels, places and bends, and other arcs. This one
         goes on answering as it did.
@@ -557,7 +551,7 @@ class Network:
             customizing=customizing and customizing.with_ends(arcs.tails, arcs.heads))
         return self._made(arcs, folder, running)
 
-    def customizable(self, order: str | os.PathLike | Iterable | None = None) -> Self:
+    def customizable(self, order: Path | Iterable | None = None) -> Self:
         """Prepares this network for new weights, and returns it: from here on `changed` customizes
         them, in the network's unit, in a small part of the time of building, unless arcs are added.
 
@@ -602,8 +596,7 @@ class Network:
 
     def _customized_in(self, order: bytes | str | None) -> Customizing:
         """What customizes weights of the arcs of this network, in an order."""
-        graph = self._layers.graph
-        tails, heads = (numpy.asarray(column, numpy.int64) for column in (graph.tails, graph.heads))
+        tails, heads = (numpy.asarray(column, numpy.int64) for column in self._layers.graph[1:3])
         return Customizing(self._engine.calls, self.nodes, tails, heads, order)
 
     def _topology(self) -> Customizing | None:
@@ -614,7 +607,7 @@ class Network:
         return self._customizing
 
     @classmethod
-    def _made(cls, arcs: Arcs, folder: str | os.PathLike | None, running: opening.Running) -> Self:
+    def _made(cls, arcs: Arcs, folder: Path | None, running: opening.Running) -> Self:
         """Builds the network of these arcs, and writes its files into a folder if one is named."""
         # Whoever changes a network was warned when it was made.
         if arcs.scale is not None and arcs.unit is None and arcs.beside is None:
@@ -1017,7 +1010,8 @@ class Network:
     def near(
         self, sources: ArrayLike | Spots | None, targets: ArrayLike | Spots, *,
         count: int | None = None, within: Limit = None, direction: Direction = "to",
-        workers: int | distributed.Client = 1, progress: Progress = None,
+        values: ArrayLike | None = None, workers: int | distributed.Client = 1,
+        progress: Progress = None,
     ) -> Near:
         """Finds the targets near each source: the first ones, or all, or those within a limit.
 
@@ -1036,6 +1030,9 @@ class Network:
         direction : {"to", "from"}
             Whether weights are those from the source to the target, or from the target to the
             source.
+        values : array of int, shape (m,), optional
+            Whole numbers from 0 on for the rows of the arcs, as `along` takes them, such as metres:
+            their sums along the routes are asked for too. Not for spots.
         workers : int or distributed.Client
             How many threads work on blocks of the answer at a time, 1 by default; or a client of
             Dask, on whose workers the library answers. All machines need the files, the program
@@ -1053,9 +1050,11 @@ class Network:
 
         Raises
         ------
+        DataFault
+            A value is no whole number from 0 on, or there are more or fewer values than rows.
         TypeError, ValueError
             A limit or a count is no number; a label is that of no node; a number or `direction` is
-            out of its range.
+            out of its range; a sum is 2^64 or more.
         ChtabError, ProgramFault, TimedOut
             The network is closed, the library has no memory, or the call took too long.
 
@@ -1065,7 +1064,7 @@ class Network:
         >>> near.to_frame().groupby("source")["weight"].mean()  # doctest: +SKIP
         """
         asked = questions.asked(self._trips, sources, targets, direction)
-        question = asked.near(count, self._measure.limit("within", within))
+        question = asked.near(count, self._measure.limit("within", within), values)
         rows = blocks.rows(self._engine, question, workers, progress)
         return Near(rows, *asked.labels(), self._measure.in_unit(rows.weights))
 

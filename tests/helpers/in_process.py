@@ -235,11 +235,13 @@ class Library:
         """The status, the number of rows, and the ends, weights and places, in which 7 stands where nothing was written."""
         rooms = [len(sources) if ends_room is None else ends_room, room, room if places_room is None else places_room]
         kinds = ctypes.c_uint64, ctypes.c_uint64, ctypes.c_uint32
-        rows, arrays = ctypes.c_uint64(7), [numbers([7] * (length + 1), kind) for length, kind in zip(rooms, kinds)]
-        given = [word for array, length in zip(arrays, rooms) for word in (array, ctypes.c_size_t(length))]
-        status = self.calls.chtab_near_rows(ctypes.byref(handle), numbers(sources), ctypes.c_size_t(len(sources)), ctypes.byref(rows), *given)
-        assert all(array[length] == 7 for array, length in zip(arrays, rooms)), "a word past the room is written"
-        return status, rows.value, *(list(array)[:length] for array, length in zip(arrays, rooms))
+        return self.many(self.calls.chtab_near_rows, handle, [(sources, ctypes.c_uint32)], [*zip(rooms, kinds)])
+
+    def kept_near_sums(self, handle, sources, room, places_room=None, ends_room=None, sums_room=None):
+        """The same, and the sums of the values that are kept."""
+        rooms = [len(sources) if ends_room is None else ends_room, room, *(room if other is None else other for other in (places_room, sums_room))]
+        kinds = ctypes.c_uint64, ctypes.c_uint64, ctypes.c_uint32, ctypes.c_uint64
+        return self.many(self.calls.chtab_kept_near_sums, handle, [(sources, ctypes.c_uint32)], [*zip(rooms, kinds)])
 
 
 def growth(work, times):

@@ -7,12 +7,12 @@ from helpers.running import ROOT
 # no word of its own, a count or a size out of reach, or what clap has ruled out before.
 PLACES = {
     "ch_c/src/answers.rt": 5, "ch_c/src/opening.rt": 1, "ch_c/src/topology.rt": 4,
-    "ch_engine/src/engine.rt": 1, "ch_engine/src/flows.rt": 2, "ch_engine/src/near.rt": 2, "ch_engine/src/route_sums.rt": 1,
-    "ch_engine/src/routes.rt": 1, "ch_engine/src/sums.rt": 2, "ch_engine/src/table_sums.rt": 6,
+    "ch_engine/src/engine.rt": 1, "ch_engine/src/flows.rt": 2, "ch_engine/src/near.rt": 2, "ch_engine/src/near_sums.rt": 11,
+    "ch_engine/src/route_sums.rt": 1, "ch_engine/src/routes.rt": 1, "ch_engine/src/sums.rt": 2, "ch_engine/src/table_sums.rt": 6,
     "ch_engine/src/topology.rt": 1,
     "ch_flows/src/pairs.rt": 2, "ch_flows/src/table.rt": 7, "ch_lists/src/lists.rt": 1,
     "ch_lists/src/place.rt": 1, "ch_query/src/weights/search.rt": 1,
-    "ch_run/src/building.rt": 1, "ch_run/src/run/batch.rt": 1, "ch_run/src/run/inputs.rt": 1, "ch_run/src/run/output.rt": 3, "ch_run/src/run/serving.rt": 3,
+    "ch_run/src/building.rt": 1, "ch_run/src/run/batch.rt": 1, "ch_run/src/run/inputs.rt": 1, "ch_run/src/run/output.rt": 3, "ch_run/src/run/serving.rt": 4,
     "ch_run/src/run/lines.rt": 1, "ch_words/src/fault.rt": 2, "ch_words/src/given.rt": 8, "ch_words/src/words.rt": 1,
 }
 # What stands for a lack of memory as a value, and at the left of an arrow.

@@ -1,13 +1,16 @@
 """Requests on a graph of three nodes whose answers and faults were worked by hand: arcs of weights 4 and 5 from node 1 over node 2 to node 3."""
 from oracles.requesting import MOST_LINE
 
+# The nodes and the arcs of the line.
+LINE = 3, [(1, 2, 4), (2, 3, 5)]
+
 # Requests on the line, what is written for them, and the line of the fault.
 FAULTS = [
     (b"p aux sp p2p 1\nq 1 3\n", b"", b"request line 1: bad line"),
     (b"q 1 3\nqq 1 3\n", b"d 1 3 9\n", b"request line 2: unknown line"),
     (b"\xef\xbb\xbfq 1 3\n", b"", b"request line 1: unknown line"),
     (b"q\x0b1 3\n", b"", b"request line 1: unknown line"),
-    (b"t 1 1\ns 1\na 1 2 4\n", b"", b"request line 3: unknown line"),
+    (b"t 1 1\ns 1\na 1 2 4\n", b"", b"request line 3: too many lines"),
     (b"q 1 3\nq 1\nq 1 3\n", b"d 1 3 9\n", b"request line 2: bad line"),
     (b"q 1 2 3\n", b"", b"request line 1: bad line"),
     (b"q\n", b"", b"request line 1: bad line"),
@@ -61,6 +64,38 @@ FAULTS = [
     (b"t 1 1\ns 1\ns 1 2\n", b"", b"request line 3: bad line"),
     (b"t 1 1\ns 1\nc\ns 4\n", b"", b"request line 4: node out of range"),
     (b"t 1 1\ns 0\n", b"", b"request line 2: node out of range"),
+    (b"q 1 3\nw\n", b"d 1 3 9\n", b"request line 2: bad line"),
+    (b"w 1 2\n", b"", b"request line 1: bad line"),
+    (b"w 4194305\n", b"", b"request line 1: size too large"),
+    (b"w 1\ns 1\n", b"", b"request line 2: too many lines"),
+    (b"w 1\nq 1 3\n", b"", b"request line 2: too few lines"),
+    (b"w 1\nw 1\n", b"", b"request line 2: too few lines"),
+    (b"t 1 1\ns 1\nw 0\n", b"", b"request line 3: too few lines"),
+    (b"a 1 2 4\n", b"", b"request line 1: too many lines"),
+    (b"w 1\na 1 2\n", b"", b"request line 2: bad line"),
+    (b"w 1\na 1 2 4 5\n", b"", b"request line 2: bad line"),
+    (b"w 1\na 0 2 4\n", b"", b"request line 2: node out of range"),
+    (b"w 1\na 1 4 4\n", b"", b"request line 2: node out of range"),
+    (b"w 1\na 4 1 %d\n" % 2**60, b"", b"request line 2: node out of range"),
+    (b"w 1\na 1 2 %d\n" % (2**60 // 3 + 1), b"", b"request line 2: weight too large"),
+    (b"q 1 3\nw 0\nq 1 3\n", b"d 1 3 9\n", b"request line 2: needs --customizable"),
+    (b"w 2\na 1 2 4\na 2 3 5\na 1 2 4\n", b"", b"request line 1: needs --customizable"),
+]
+
+# The same on a network that is customized, where the fault is None if there is none.
+WEIGHED = [
+    (b"q 1 3\nw 1\na 1 2 40\nq 1 3\n", b"d 1 3 9\nd 1 3 45\n", None),
+    (b"w 0\nq 1 3", b"d 1 3 9\n", None),
+    (b"w 1\na 2 3 0\nq 1 3\nw 3\na 1 2 7\na 2 3 8\na 1 2 1\nq 1 3\nq 3 1\n", b"d 1 3 4\nd 1 3 9\nd 3 1 -\n", None),
+    (b"p 1 0\ns 3\nn 1\nw 1\n\nc\na 2 3 1\nn 1\nt 1 1 4\ns 1\ns 3\nt 1 1\ns 1\ns 3\nr 1 3\nw 1\na 1 2 0\nn 1",
+     b"n 1 1 3 9\nn 1 1 3 5\nt 1 -\nt 1 5\nd 1 3 5\nr 2\na 1 2 4\na 2 3 1\nn 1 1 3 1\n", None),
+    (b"w 2\na 1 2 %d\na 2 3 %d\nq 1 3\n" % (2**60 // 3, 2**60 // 3), b"d 1 3 %d\n" % (2 * (2**60 // 3)), None),
+    (b"q 1 3\nw 1\na 2 1 5\nq 1 3\n", b"d 1 3 9\n", b"request line 3: no such arc"),
+    (b"w 3\na 1 2 9\nc\na 3 2 9\na 2 1 9\nq 1 3\n", b"", b"request line 4: no such arc"),
+    (b"w 1\na 1 2 9\nq 1 3\nw 1\na 1 1 0\n", b"d 1 3 14\n", b"request line 5: no such arc"),
+    (b"w 2\na 2 1 9\na 1 2\n", b"", b"request line 3: bad line"),
+    (b"q 1 3\nw 2\na 1 2 3\nq 1 3\n", b"d 1 3 9\n", b"request line 4: too few lines"),
+    (b"w 1\na 1 2 3", b"", None),
 ]
 
 # The same, where the end has the fault, or the last line is cut short.
@@ -74,6 +109,7 @@ FAULTS_OF_THE_END = [
     (b"t 1 2\ns 1\ns", b"", b"request line 3: bad line"),
     (b"q 1 3\nt 4096 1025", b"d 1 3 9\n", b"request line 2: too many cells"),
     (b"n 1\np 1 0", b"n 1 0\n", b"request line 3: too few lines"),
+    (b"q 1 3\nw 1", b"d 1 3 9\n", b"request line 3: too few lines"),
     (b"q 1 3\ns", b"d 1 3 9\n", b"request line 2: bad line"),
 ]
 

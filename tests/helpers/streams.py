@@ -7,7 +7,7 @@ from helpers.mutating import MUTATIONS, with_lines
 from helpers.writing import write_graph
 from oracles.contracting import contract_in_order, text_of
 from oracles.reading import read
-from oracles.requesting import Answers, Near, Places, Query, Route, Table
+from oracles.requesting import Answers, Near, NewWeights, Places, Query, Route, Table
 from oracles.rules import hierarchy_text
 
 # The options of a run that `dist` knows, and those that `table` does. Each is a word and its value, or None.
@@ -40,6 +40,8 @@ def lines_of_request(request):
             return [head, *(f"s {node}" for node in sources + targets)]
         case Places(nodes, count):
             return [f"p {len(nodes)} {count}", *(f"s {node}" for node in nodes)]
+        case NewWeights(_, listed):
+            return [f"w {len(listed)}", *(f"a {start} {end} {weight}" for start, end, weight, _ in listed)]
 
 
 def limit_words(within):
@@ -110,6 +112,37 @@ def cut_at_random(draw, stream):
     inner = range(1, len(stream))
     places = sorted(draw.sample(inner, min(len(inner), draw.choice([0, 1, 3, 20]))))
     return [stream[start:end] for start, end in pairwise([0, *places, len(stream)]) if start < end]
+
+
+def drawn_weights(draw, case):
+    """New weights of arcs of a graph, some of them twice, and now and then one that is for no arc."""
+    listed = [(start, end, draw.choice([0, weight, draw.randint(0, 2**60 // case.nodes)]), 0)
+              for start, end, weight in draw.choices(case.arcs, k=draw.choice([0, 1, 1, 3, 30]) if case.arcs else 0)]
+    if draw.random() < 0.05:
+        listed.insert(draw.randint(0, len(listed)), (draw.randint(1, case.nodes), draw.randint(1, case.nodes), 1, 0))
+    return NewWeights(0, listed)
+
+
+class Weighed:
+    """A random graph, a stream of requests and new weights on it, and where it is cut."""
+
+    def __init__(self, seed):
+        draw = random.Random(f"weighed {seed}")
+        self.case = case = Case(seed)
+        self.given = []
+        for _ in range(draw.randint(1, 5)):
+            requests = drawn_of_all_kinds(draw, case.nodes, draw.randint(0, 5), (0, 1, 2, 5), [0, case.limit, 2**60])
+            self.given += [Query(*request) if isinstance(request, Route) else request for request in requests]
+            self.given.append(drawn_weights(draw, case))
+        self.is_mutated = draw.random() < 0.3
+        self.stream = with_skipped(draw, stream_of(self.given))
+        if self.is_mutated:
+            self.stream = draw.choice(MUTATIONS)(draw, self.stream)
+        self.parts = cut_at_random(draw, self.stream)
+        self.options = {"--workers": draw.choice([1, 2]), "--piece": 1} | ({"--within": case.limit} if draw.random() < 0.4 else {})
+
+    def owed(self):
+        return Answers(self.case.nodes, self.case.arcs, self.options.get("--within", 2**60), customizable=True).owed(self.stream)
 
 
 class Drawn:

@@ -311,6 +311,28 @@ static uint32_t write_kept_sums(void) {
     return status;
 }
 
+/* Where a near row with sums is refused memory, those before it are written, and behind them all stays. The values are 1. */
+static uint32_t write_summed_rows(void) {
+    uint64_t rows = 9, ends[8], weights[64], first;
+    uint32_t status, places[64], k, row;
+    long kept = granted;
+    granted = -1;
+    keep_all_places();
+    granted = kept;
+    memset(g.cells, 7, sizeof g.cells);
+    status = chtab_kept_near_sums(&g.network, g.ends, 8, &rows, ends, 8, weights, 64, places, 64, g.cells, 64);
+    granted = -1;
+    expect((status == CHTAB_OK) == (rows == 8) && rows <= 8, "rows with sums before the one that is refused");
+    first = rows ? ends[rows - 1] : 0;
+    for (k = 0, row = 0; k < first; k++) {
+        while (k == ends[row]) row++;
+        expect(weights[k] == distance_of(g.ends[row], g.ends[places[k]]), "the weight of a pair");
+        expect(g.cells[k] == arcs_between(g.ends[row], g.ends[places[k]]), "the arcs of a pair");
+    }
+    for (; k < 64; k++) expect(g.cells[k] == 0x0707070707070707u, "a sum of a pair stays");
+    return status;
+}
+
 /* Where flows are refused memory, none is written. Each pair has the demand 1, so that the flows count the arcs of all routes. */
 static uint32_t write_flows(void) {
     static const uint64_t demands[8] = {1, 1, 1, 1, 1, 1, 1, 1};
@@ -468,6 +490,7 @@ static void refuse_questions(void) {
     refuse_each(keep_weights, keep_ones, "values");
     goes_on = 0;
     refuse_each(write_kept_sums, NULL, "sums of kept values");
+    refuse_each(write_summed_rows, NULL, "near rows with sums");
     g.whole = 0;
     for (k = 0; k < 8; k++) g.whole += arcs_between(g.ends[k], g.targets[k]);
     refuse_each(write_flows, NULL, "flows");

@@ -11,6 +11,7 @@ from oracles.rules import routes_text
 
 MOST_LISTED = FORMS["sources"].parts[0].most
 MOST_CELLS = 2**22
+MOST_NEW_WEIGHTS = 2**22
 
 MOST_LINE = 65_536
 
@@ -20,17 +21,21 @@ Table = namedtuple("Table", "sources targets within", defaults=[None])
 Places = namedtuple("Places", "nodes count")
 Near = namedtuple("Near", "source within", defaults=[None])
 
+# New weights: the line that begins their list, and of each its nodes, its weight and its line.
+NewWeights = namedtuple("NewWeights", "line listed")
+
 
 class Reader:
-    """Judges the lines of a stream on a graph of so many nodes. Between lines it knows the request that is begun: what is made of its nodes,
-    how many it wants, and those that were listed; none is begun where none is wanted."""
+    """Judges the lines of a stream on a graph of so many nodes. Between lines it knows the request whose list it reads: what is made of its
+    nodes, how many it wants, and those that were listed. It reads no list where none is wanted. The same of new weights, where the letter of
+    the wanted lines is `a`."""
 
     def __init__(self, nodes):
         self.nodes, self.line = nodes, 0
         self.begin(0, None)
 
-    def begin(self, wanted, make):
-        self.wanted, self.make, self.listed = wanted, make, []
+    def begin(self, wanted, make, letter=b"s"):
+        self.wanted, self.make, self.letter, self.listed = wanted, make, letter, []
 
     def take(self, line):
         """The requests that are whole with this line: one or none. Raises its fault."""
@@ -39,7 +44,8 @@ class Reader:
         words = words_of(line)
         if not words or words[0].startswith(b"c"):
             return []
-        kinds = {b"q": self.query, b"r": self.route, b"t": self.table, b"p": self.places, b"n": self.near, b"s": self.node}
+        kinds = {b"q": self.query, b"r": self.route, b"t": self.table, b"p": self.places, b"n": self.near, b"s": self.node,
+                 b"w": self.weights, b"a": self.weight}
         self.expect(words[0] in kinds, "unknown line")
         return kinds[words[0]](words)
 
@@ -82,9 +88,26 @@ class Reader:
         self.begin(places, lambda listed: Places(listed, count))
         return self.finished()
 
+    def weights(self, words):
+        self.expect_whole()
+        count, = self.numbers(words, 1)
+        self.expect(count <= MOST_NEW_WEIGHTS, "size too large")
+        line = self.line
+        self.begin(count, lambda listed: NewWeights(line, listed), b"a")
+        return self.finished()
+
+    def weight(self, words):
+        start, end, weight = self.numbers(words, 3)
+        self.expect_room(b"a")
+        self.expect_node(start)
+        self.expect_node(end)
+        self.expect(self.nodes * weight <= MOST_WEIGHT, "weight too large")
+        self.listed.append((start, end, weight, self.line))
+        return self.finished()
+
     def node(self, words):
         node, = self.numbers(words, 1)
-        self.expect(len(self.listed) < self.wanted, "too many lines")
+        self.expect_room(b"s")
         self.expect_node(node)
         self.listed.append(node)
         return self.finished()
@@ -111,6 +134,9 @@ class Reader:
 
     def expect_whole(self):
         self.expect(len(self.listed) == self.wanted, "too few lines")
+
+    def expect_room(self, letter):
+        self.expect(letter == self.letter and len(self.listed) < self.wanted, "too many lines")
 
     def expect_limit(self, within):
         self.expect(within is None or within <= MOST_WEIGHT, "weight too large")
@@ -147,10 +173,12 @@ def fault_line(fault):
 
 class Answers:
     """The answers on a graph: cells of tables and near rows where they are at most `within`, where the request has no limit of its own; and
-    routes by the order and the legs of a hierarchy, of each query where the run `tells_routes`."""
+    routes by the order and the legs of a hierarchy, of each query where the run `tells_routes`. New weights hold where it is
+    `customizable`."""
 
-    def __init__(self, nodes, arcs, within=MOST_WEIGHT, hierarchy=None, tells_routes=True):
-        self.nodes, self.within, self.hierarchy, self.tells_routes = nodes, within, hierarchy, tells_routes
+    def __init__(self, nodes, arcs, within=MOST_WEIGHT, hierarchy=None, tells_routes=True, customizable=False):
+        self.nodes, self.arcs, self.within, self.hierarchy, self.tells_routes = nodes, arcs, within, hierarchy, tells_routes
+        self.customizable = customizable
         ahead = arcs_ahead(arcs)
         self.distances = cache(lambda source: distances_from(source, ahead))
 
@@ -184,20 +212,40 @@ class Answers:
         nearest = sorted(reached)[:places.count or None]
         return " ".join(["n", str(source), str(len(nearest)), *(f"{places.nodes[place]} {weight}" for weight, place in nearest)]) + "\n"
 
-    def text(self, requests):
-        """The text of these requests, in order."""
-        places, texts = Places([], 0), []
+    def weighed(self, new):
+        """The answers with these new weights, without routes. Raises the fault of the first that is for no arc."""
+        if not self.customizable:
+            raise Fault(new.line, "needs --customizable")
+        pairs = {(start, end) for start, end, _ in self.arcs}
+        for start, end, _, line in new.listed:
+            if (start, end) not in pairs:
+                raise Fault(line, "no such arc")
+        latest = {(start, end): weight for start, end, weight, _ in new.listed}
+        arcs = [(start, end, latest.get((start, end), weight)) for start, end, weight in self.arcs]
+        return Answers(self.nodes, arcs, self.within, customizable=True)
+
+    def served(self, requests):
+        """The text of these requests, in order, up to new weights that are refused; and the fault of these, or None."""
+        present, places, texts = self, Places([], 0), []
         for request in requests:
-            texts.append(self.answer(request, places))
+            if isinstance(request, NewWeights):
+                try:
+                    present = present.weighed(request)
+                except Fault as fault:
+                    return "".join(texts).encode(), str(fault)
+                continue
+            texts.append(present.answer(request, places))
             if isinstance(request, Places):
                 places = request
-        return "".join(texts).encode()
+        return "".join(texts).encode(), None
 
     def owed(self, data):
         """Status, output and errors of a run over a stream."""
         given, fault = told(data, self.nodes)
-        return (1, self.text(given), fault_line(fault)) if fault else (0, self.text(given), b"")
+        text, refused = self.served(given)
+        fault = refused or fault
+        return (1, text, fault_line(fault)) if fault else (0, text, b"")
 
     def owed_so_far(self, data):
         """What is written once these first bytes of a stream were read, and no more were."""
-        return self.text(whole_in(data, self.nodes))
+        return self.served(whole_in(data, self.nodes))[0]

@@ -86,7 +86,7 @@ def test_what_c_would_misread_is_refused():
     raises(ValueError, handle.near_rows, columns_of([0, 3])[0], 9, told="not one of the network")
     assert handle.distances(many[:0], many[:0]).tolist() == [] and handle.table(many[:0], right).shape == (0, 2)
     for nodes, pairs, owed in (many[:0], 0, [[]] * 3), (right, 2, [[2], [0, 4], [0, 1]]):
-        assert [part.tolist() for part in handle.near_rows(nodes, pairs)] == owed
+        assert [part.tolist() for part in handle.near_rows(nodes, pairs)[:3]] == owed
 
 
 def test_a_table_of_sums_is_that_of_the_values_given():

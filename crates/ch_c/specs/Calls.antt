@@ -15,10 +15,12 @@ use Rattle.ch_engine.specs.Flows.{AreFlowsWritten, AreTableFlowsWritten}
 use Rattle.ch_rows.specs.declared.direction.Direction.{Direction}
 use Rattle.ch_rows.specs.declared.direction.Direction.TheVariants.{To, From}
 use Rattle.ch_engine.specs.declared.written.End.{End}
+use Rattle.ch_engine.specs.declared.written.RowsEnd.{RowsEnd}
 use Rattle.ch_engine.specs.declared.written.SumsEnd.{SumsEnd}
 use Rattle.ch_engine.specs.Held.{Held, only, with_places, with_values, without_places}
 use Rattle.ch_engine.specs.Lines.{IsOfSome, Lines}
 use Rattle.ch_engine.specs.NearRows.{AreRowsWritten, StaysFrom, begin_of}
+use Rattle.ch_engine.specs.NearSums.{AreSummedRowsWritten}
 use Rattle.ch_engine.specs.NearTable.{AreCellsWritten, places_of}
 use Rattle.ch_engine.specs.Opened.{IsOpened, IsOpenedLike, IsOpenedOfArrays, IsOpenedQuickly}
 use Rattle.ch_engine.specs.Routes.{AreRoutesWritten, IsFound}
@@ -32,7 +34,8 @@ use Rattle.ch_engine.specs.Refusals.{AreSumSources, AreTableLists, IsLikeError, 
 use Rattle.ch_engine.specs.Refusals.{IsRefusalOfPairSums, IsRefusalOfPlaces, IsRefusalOfRoute, IsRefusalOfRoutes, IsRefusalOfRows}
 use Rattle.ch_engine.specs.Refusals.{AreCellSources, AreTableSumLengths, IsRefusalOfCells, IsRefusalOfTableSums}
 use Rattle.ch_engine.specs.Refusals.{IsRefusalOfSums, IsRefusalOfSweep, IsRefusalOfTable, IsArraysOpenError}
-use Rattle.ch_engine.specs.Refusals.{AreKeptSumLists, IsRefusalOfKeptSums, IsRefusalOfValues}
+use Rattle.ch_engine.specs.Refusals.{AreKeptSumLists, AreSummedRowSources, IsRefusalOfKeptSums, IsRefusalOfSummedRows}
+use Rattle.ch_engine.specs.Refusals.{IsRefusalOfValues}
 use Rattle.ch_c.specs.declared.faults.Fault.{Fault}
 use Rattle.ch_c.specs.declared.answers.Found.{Found}
 use Rattle.ch_c.specs.declared.status.TheConstants.{OK, NO_MEMORY, CLOSED, IS_OPEN, NODE_RANGE, LENGTHS, TOO_LARGE, TOO_SHORT}
@@ -361,6 +364,31 @@ AreKeptSumsAnswered held sources targets before after status =
     × (StaysFrom after.pairs before.weights after.weights × StaysFrom after.pairs before.sums after.sums))
     ⊎ ((refusal : Refusal) × (status ≡ refusal_status refusal) × (after ≡ before)
     × IsRefusalOfKeptSums (nodes_of held.hierarchy) held.values sources targets (length before.weights) (length before.sums) refusal)
+
+-- the status for the reason why no more near rows were written with their sums
+abbrev pub rows_status : RowsEnd → ℕ
+rows_status RowsEnd.All = OK
+rows_status RowsEnd.NoRoom = TOO_SHORT
+rows_status RowsEnd.TooLarge = SUM_TOO_LARGE
+rows_status RowsEnd.NoMemory = NO_MEMORY
+
+-- the arrays for near rows, and the sums of their pairs
+pub record SummedArrays : Type 0 where
+  pub rows : Arrays
+  pub sums : List ℕ
+
+-- near rows with sums of the kept values are written as far as there is room and memory, or they are refused and all is as before
+abbrev pub AreSummedRowsAnswered : Held → List ℕ → SummedArrays → SummedArrays → ℕ → Type 0
+AreSummedRowsAnswered held sources before after status =
+    ((end : RowsEnd) × (status ≡ rows_status end)
+    × AreSummedRowSources (nodes_of held.hierarchy) held.values held.near sources (length before.rows.ends)
+    (length before.rows.weights) (length before.rows.places) (length before.sums)
+    × AreSummedRowsWritten held sources after.rows.ends after.rows.weights after.rows.places after.sums
+    (record { count = after.rows.rows; end = end })
+    × IsRestKept before.rows after.rows × StaysFrom (begin_of after.rows.ends after.rows.rows) before.sums after.sums)
+    ⊎ ((refusal : Refusal) × (status ≡ refusal_status refusal) × (after ≡ before)
+    × IsRefusalOfSummedRows (nodes_of held.hierarchy) held.values held.near sources (length before.rows.ends)
+    (length before.rows.weights) (length before.rows.places) (length before.sums) refusal)
 
 -- the status for what became of flows
 abbrev pub flowed_status : Flowed → ℕ

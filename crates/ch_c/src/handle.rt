@@ -2,7 +2,7 @@
 ghost use Rattle.std.specs.Prelude.{◌≡◌, ◌↔◌, IfSome, IsSome, IsTrue, MatchOption, None, Some, ⊤};
 ghost use Rattle.ch_hierarchy.specs.Hierarchy.{nodes_of};
 ghost use Rattle.ch_engine.specs.Lines.{IsOfSome};
-ghost use Rattle.ch_c.specs.Calls.{AreCellsAnswered, AreFlowsAnswered, AreKeptSumsAnswered, ArePairsAnswered, ArePairSumsAnswered, ArePlacesKept, AreRoutesAnswered, AreRowsAnswered, AreSumsAnswered, AreTableFlowsAnswered, AreTableSumsAnswered, AreValuesKept, IsRouteAnswered, IsSaved, IsSwept, IsTableAnswered, OfNetwork};
+ghost use Rattle.ch_c.specs.Calls.{AreCellsAnswered, AreFlowsAnswered, AreKeptSumsAnswered, ArePairsAnswered, ArePairSumsAnswered, ArePlacesKept, AreRoutesAnswered, AreRowsAnswered, AreSummedRowsAnswered, AreSumsAnswered, AreTableFlowsAnswered, AreTableSumsAnswered, AreValuesKept, IsRouteAnswered, IsSaved, IsSwept, IsTableAnswered, OfNetwork};
 ghost use Rattle.ch_c.specs.declared.status.TheConstants.{OK};
 
 pub use crate::answers::Found;
@@ -11,7 +11,7 @@ use crate::answers::{
     write_routes, write_saved, write_table, write_table_flows, write_table_sums,
 };
 use crate::erased::ErasedEngine;
-use crate::near::{keep_places, sweep, write_cells, write_rows, write_sums};
+use crate::near::{keep_places, sweep, write_cells, write_rows, write_summed_rows, write_sums};
 use crate::raw_box::RawBox;
 use crate::status::{CLOSED, OK};
 use ch_engine::Engine;
@@ -414,6 +414,39 @@ pub extern "C" fn chtab_near_rows(
         return CLOSED;
     };
     let status = write_rows(alloc, &mut engine, sources, rows, ends, weights, places);
+    handle.put(engine);
+    status
+}
+
+/// Writes the rows of sources over the kept places as `chtab_near_rows` does, and the sum of the kept values along the route of
+/// each of their pairs.
+#[unsafe(no_mangle)]
+pub extern "C" fn chtab_kept_near_sums(
+    alloc: Global,
+    handle: &mut Handle,
+    sources: &[u32],
+    rows: &mut u64,
+    ends: &mut [u64],
+    weights: &mut [u64],
+    places: &mut [u32],
+    sums: &mut [u64],
+) -> u32
+    ensures answered { OfNetwork handle.old.engine.network result ((rows.new ≡ rows.old) × (ends.new ≡ ends.old) × (weights.new ≡ weights.old) × (places.new ≡ places.old) × (sums.new ≡ sums.old)) (λ held. AreSummedRowsAnswered held sources.now (record { rows = record { rows = rows.old; ends = ends.old; weights = weights.old; places = places.old }; sums = sums.old }) (record { rows = record { rows = rows.new; ends = ends.new; weights = weights.new; places = places.new }; sums = sums.new }) result) }
+    ensures same { handle.new.engine.network ≡ handle.old.engine.network }
+{
+    let Some(mut engine) = handle.take(alloc) else {
+        return CLOSED;
+    };
+    let status = write_summed_rows(
+        alloc,
+        &mut engine,
+        sources,
+        rows,
+        ends,
+        weights,
+        places,
+        sums,
+    );
     handle.put(engine);
     status
 }

@@ -22,9 +22,9 @@ mod topology;
 pub use faults::Fault;
 pub use handle::{
     Found, Handle, chtab_distances, chtab_flows, chtab_flows_table, chtab_keep_values,
-    chtab_kept_table_sums, chtab_near_places, chtab_near_rows, chtab_near_sums, chtab_near_sweep,
-    chtab_near_table, chtab_nodes, chtab_route, chtab_route_sums, chtab_routes, chtab_save,
-    chtab_table, chtab_table_sums, chtab_version,
+    chtab_kept_near_sums, chtab_kept_table_sums, chtab_near_places, chtab_near_rows,
+    chtab_near_sums, chtab_near_sweep, chtab_near_table, chtab_nodes, chtab_route,
+    chtab_route_sums, chtab_routes, chtab_save, chtab_table, chtab_table_sums, chtab_version,
 };
 pub use opening::{
     chtab_close, chtab_open, chtab_open_arrays, chtab_open_like, chtab_open_quick, chtab_share,

@@ -1,9 +1,9 @@
 //! Near rows, as C sees them.
 ghost use Rattle.std.specs.Prelude.{◌≡◌, Some};
-ghost use Rattle.ch_c.specs.Calls.{AreCellsAnswered, ArePlacesKept, AreRowsAnswered, AreSumsAnswered, IsSwept, direction_of as the_direction, end_status, sums_status};
+ghost use Rattle.ch_c.specs.Calls.{AreCellsAnswered, ArePlacesKept, AreRowsAnswered, AreSummedRowsAnswered, AreSumsAnswered, IsSwept, direction_of as the_direction, end_status, rows_status, sums_status};
 
 use crate::status::{NO_MEMORY, OK, SUM_TOO_LARGE, TOO_SHORT, status_of};
-use ch_engine::{End, Engine, SumsEnd};
+use ch_engine::{End, Engine, RowsEnd, SumsEnd};
 use ch_rows::Direction;
 use std::alloc::Global;
 
@@ -77,6 +77,41 @@ pub(crate) fn status_of_end(end: End) -> u32
         End::All => OK,
         End::NoRoom => TOO_SHORT,
         End::NoMemory => NO_MEMORY,
+    }
+}
+
+/// Writes the rows of sources with the sums of the kept values as far as there is room and memory. Returns a status.
+pub(crate) fn write_summed_rows(
+    alloc: Global,
+    engine: &mut Engine,
+    sources: &[u32],
+    rows: &mut u64,
+    ends: &mut [u64],
+    weights: &mut [u64],
+    places: &mut [u32],
+    sums: &mut [u64],
+) -> u32
+    ensures answered { AreSummedRowsAnswered engine.old sources.now (record { rows = record { rows = rows.old; ends = ends.old; weights = weights.old; places = places.old }; sums = sums.old }) (record { rows = record { rows = rows.new; ends = ends.new; weights = weights.new; places = places.new }; sums = sums.new }) result }
+    ensures same { engine.new ≡ engine.old }
+{
+    match engine.kept_near_sums(alloc, sources, ends, weights, places, sums) {
+        Ok(found) => {
+            *rows = found.count;
+            status_of_rows(found.end)
+        }
+        Err(refusal) => status_of(refusal),
+    }
+}
+
+/// Returns the status for the reason why no more rows were written with their sums.
+fn status_of_rows(end: RowsEnd) -> u32
+    ensures { result ≡ rows_status end }
+{
+    match end {
+        RowsEnd::All => OK,
+        RowsEnd::NoRoom => TOO_SHORT,
+        RowsEnd::TooLarge => SUM_TOO_LARGE,
+        RowsEnd::NoMemory => NO_MEMORY,
     }
 }
 

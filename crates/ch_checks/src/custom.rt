@@ -9,13 +9,13 @@ ghost use Rattle.ch_tree.specs.Tree.{IsTree};
 
 use crate::again::{again, again_after};
 use crate::examples::{RING, RING_ARCS};
-use ch_custom::{Topology, TopologyError, customize, renumber, topology_of};
+use ch_custom::{Topology, TopologyError, customize, topology_of};
 use ch_graph::Graph;
 use ch_hierarchy::{Hierarchy, Side};
 use ch_query::Start;
 use ch_read::{ReadError, read_graph};
 use ch_text::save_text;
-use ch_tree::{NEVER, TreeScratch, distance, ranked_space, tree_for};
+use ch_tree::{TreeScratch, distance, ranked_space, tree_for};
 use std::alloc::{AllocError, Global};
 use std::test::Fail;
 
@@ -49,8 +49,7 @@ fn by_tree(
         side: Side::Up,
         within: None,
     };
-    let mut costs = vec![in alloc; NEVER; hierarchy.nodes() as usize]?;
-    let space = ranked_space(alloc, hierarchy, parents, &mut costs, start)?;
+    let space = ranked_space(alloc, hierarchy, parents, &mut scratch, start)?;
     Ok(Answers {
         text: save_text(alloc, hierarchy)?,
         distance,
@@ -134,28 +133,5 @@ fn faults_are_told(rt: HostRuntime) -> Result<(), Fail> {
         fault_of(alloc, &ring, &[0, 1, 2, 3, 4], 2),
         Some(TopologyError::Triangles)
     );
-    Ok(())
-}
-
-/// Returns the ends of the first arc of the graph once its nodes are numbered by this order, if it is an order.
-fn first_ends(
-    alloc: Global,
-    graph: &Graph,
-    order: &[u32],
-) -> Result<Option<(u32, u32)>, AllocError> {
-    match renumber(alloc, graph, order)? {
-        Some(numbered) => Ok(numbered.graph.arcs().first().map(|arc| (arc.from, arc.to))),
-        None => Ok(None),
-    }
-}
-
-/// Nodes get the numbers of their places. It holds if any one request for memory is refused.
-#[test]
-fn numbers_refused_in_turn(rt: HostRuntime) -> Result<(), Fail> {
-    let alloc = rt.alloc();
-    let ring = again_after!(ReadError::NoMemory, read_graph(alloc, RING_ARCS));
-    let ends = again!(first_ends(alloc, &ring, &[4, 3, 1, 2, 0]));
-    assert_eq!(rt; ends, Some((4, 2)));
-    assert_eq!(rt; again!(first_ends(alloc, &ring, &[4, 3, 1, 2, 4])), None);
     Ok(())
 }

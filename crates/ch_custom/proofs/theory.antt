@@ -17,7 +17,6 @@ pub mod Unions
 pub mod Growing
 pub mod Triangles
 pub mod Ancestors
-pub mod Numbering
 pub mod Pruned
 pub mod ExactLegs
 pub mod ExactRows

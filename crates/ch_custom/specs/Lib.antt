@@ -5,7 +5,6 @@ pub mod Divisions
 pub mod Exact
 pub mod LegPairs
 pub mod Metric
-pub mod Numbering
 pub mod Topologies
 pub mod Opening
 pub mod Pairs

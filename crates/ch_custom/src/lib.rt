@@ -12,13 +12,11 @@ pub mod laws;
 mod leg_pair;
 mod lowering;
 mod metric;
-mod numbering;
 mod pairs;
 mod parts;
 mod pruning;
 mod topology;
 
 pub use customizing::{customize, customize_by};
-pub use numbering::{Renumbered, renumber};
 pub use pruning::customize_and_prune;
 pub use topology::{TRIANGLES_A_NODE, Topology, TopologyError, topology_of};

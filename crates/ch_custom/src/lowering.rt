@@ -68,33 +68,12 @@ pub(crate) fn first_from(row: &[LegPair], from: usize, node: u32) -> usize
     place
 }
 
-/// Returns the place of the others after `from` if the row has later nodes alone, the last if it has none, and else 0: the
-/// pairs before it lower nothing.
-#[inline]
-fn first_lowering(others: &[LegPair], from: usize, row: &[LegPair]) -> usize
-    requires others { IsReady others.now }
-    requires row { IsReady row.now }
-    ensures within { result ≤ length others.now }
-    ensures before { (k j : ℕ) (d e : AnyPair) → k < result → j < length row.now →
-        (slice_index_or others.now k d).node < (slice_index_or row.now j e).node }
-{
-    if row.is_empty() {
-        others.len()
-    } else if from < others.len() && others[from].node < row[0].node {
-        from + 1
-    } else {
-        0
-    }
-}
-
 /// Lowers each leg of a row over `middle`, in both directions: to the sum of the leg of `one` and the leg of `others`
-/// to the same node, if there is one. Both rows are walked once. Where nodes are numbered by the order, the walk of the
-/// others begins after `from`, the place of `one`.
+/// to the same node, if there is one. Both rows are walked once.
 pub(crate) fn lower_row(
     nodes: u32,
     middle: u32,
     one: &LegPair,
-    from: usize,
     others: &[LegPair],
     row: &mut [LegPair],
 )
@@ -105,9 +84,8 @@ pub(crate) fn lower_row(
     ensures lowered { ArePairsLowered nodes middle one.now others.now row.old row.new }
     ensures held { (side : AnySide) → All IsHeld (row_of side row.new) }
 {
-    let first = first_lowering(others, from, row);
     let mut place = 0;
-    for next in first..others.len() {
+    for next in 0..others.len() {
         let node = others[next].node;
         place = first_from(row, place, node);
         if place < row.len() && row[place].node == node {

@@ -173,17 +173,8 @@ impl Metric {
         Ok(rooms)
     }
 
-    /// Lowers each pair of one node over `middle`, with one pair, whose place among the others is `from`, and the others to
-    /// the same nodes.
-    fn lower(
-        &mut self,
-        node: u32,
-        nodes: u32,
-        middle: u32,
-        one: &LegPair,
-        from: usize,
-        others: &[LegPair],
-    )
+    /// Lowers each pair of one node over `middle`, with one pair, and the others to the same nodes.
+    fn lower(&mut self, node: u32, nodes: u32, middle: u32, one: &LegPair, others: &[LegPair])
         requires node { node < length self.old }
         requires middle { middle < nodes }
         requires one { AreHeld one.now }
@@ -195,14 +186,7 @@ impl Metric {
     {
         let start = self.starts[node as usize];
         let end = self.starts[node as usize + 1];
-        lower_row(
-            nodes,
-            middle,
-            one,
-            from,
-            others,
-            &mut self.pairs[start..end],
-        );
+        lower_row(nodes, middle, one, others, &mut self.pairs[start..end]);
     }
 
     /// Lowers the row of each node of `taken` over `middle`, whose row it is: with the pair of `taken` at the same
@@ -216,7 +200,7 @@ impl Metric {
     {
         for place in 0..taken.len() {
             let node = taken[place].node;
-            self.lower(node, nodes, middle, &taken[place], place, taken);
+            self.lower(node, nodes, middle, &taken[place], taken);
         }
     }
 }

@@ -1,25 +1,44 @@
 -- Sums of values along legs: those of both halves of a shortcut add up.
-use Rattle.std.proofs.Common.{◌≡◌, ◌≢◌, ℕ, zero, suc, ◌+◌, ◌-◌, ◌<◌, List, [], ◌∷◌, ◌++◌, length, get_or, Contains, Option, Some, None}
-use Rattle.std.proofs.Common.{inl, inr, refl, sym, subst, arith}
+use Rattle.std.proofs.Common.{◌≡◌, ◌≢◌, ℕ, zero, suc, ◌+◌, ◌-◌, ◌<◌, List, [], ◌∷◌, ◌++◌, length, map, get_or, Contains, Option, Some, None}
+use Rattle.std.proofs.Common.{inl, inr, refl, sym, ◌∙◌, ap, subst, arith}
 use Rattle.std.specs.Prelude.{MatchOption, ⊤}
 use Rattle.std.proofs.lemmas.Bool.{cases_lt}
-use Rattle.std.proofs.lemmas.List.{get_or-append-add, get_or_append_left, get_or_default, length-append}
+use Rattle.std.proofs.lemmas.List.{get_or-append-add, get_or-map, get_or_append_left, get_or_default, length-append, length-map}
 use Rattle.std.proofs.lemmas.List.Sums.{sum_by-append, sum_by-cons}
 use Rattle.ch_graph.specs.declared.arc.InArc.{InArc}
 use Rattle.ch_hierarchy.specs.declared.leg.Leg.{Leg}
-use Rattle.ch_hierarchy.specs.Hierarchy.{LevelsAndLegs}
+use Rattle.ch_hierarchy.specs.declared.ranked.RankedLeg.{RankedLeg}
+use Rattle.ch_hierarchy.specs.Hierarchy.{IsLevelled, LevelsAndLegs, nodes_of}
+use Rattle.ch_hierarchy.specs.Ranked.{rank_of, ranked_leg}
 use Rattle.ch_hierarchy.specs.Rows.{row}
 use Rattle.ch_hierarchy.specs.declared.side.Side.{Side}
 use Rattle.ch_hierarchy.specs.declared.side.Side.TheVariants.{Up, Down}
+use Rattle.ch_hierarchy.specs.Side.{rows_of}
+use Rattle.ch_hierarchy.proofs.code.Ranked.{rank_one}
 use Rattle.ch_hierarchy.proofs.theory.NoLeg.{no_leg}
+use Rattle.ch_query.proofs.one_side.Expanding.{leg_up}
 use Rattle.ch_query.specs.Routes.{IsUnpacked, arc, shortcut}
-use Rattle.ch_engine.specs.LegSums.{AreLegRows, AreLegWords, AreLinesBetween, IsLegSum, IsRowLegSum, IsSumBetween, leg_on}
-use Rattle.ch_engine.specs.Lines.{IsLineBy, Lines}
+use Rattle.ch_engine.specs.LegSums.{AreLegRows, AreLegWords, AreLinesBetween, IsLegSum, IsRowLegSum, IsSumBetween, leg_on, rank_at}
+use Rattle.ch_engine.specs.Lines.{IsLineBy, Lines, node_at}
 use Rattle.ch_engine.proofs.SeenLines.{rows_pushed}
 
 -- a leg of a row by its place
 pub leg_in : (legs : List Leg) (k : ℕ) → k < length legs → Contains legs (leg_on legs k)
 leg_in legs k low = (k, low, get_or_default legs k (get_or legs k no_leg) no_leg low)
+
+-- the leg at the rank of a node is the leg at the node
+pub leg_of_rank : (H : LevelsAndLegs) → IsLevelled H → (side : Side) (v w : ℕ) → w < nodes_of H → (ranked : List RankedLeg) →
+    ranked ≡ map (ranked_leg H) (row (rows_of H side) v) → (k : ℕ) → k < length ranked → rank_at ranked k ≡ rank_of H w →
+    (k < length (row (rows_of H side) v)) × (node_at (row (rows_of H side) v) k ≡ w)
+leg_of_rank H levelled side v w low ranked is k inside rank =
+    let legs = row (rows_of H side) v in
+    let none : RankedLeg = record { rank = 0; arcs = 0; weight = 0 } in
+    let size : length ranked ≡ length legs = ap length is ∙ length-map legs (ranked_leg H) in
+    let within : k < length legs = omega (arith, inside, size) in
+    let same : rank_of H (node_at legs k) ≡ rank_of H w =
+    sym (ap (λ (l : List RankedLeg). rank_at l k) is
+    ∙ ap (λ (l : RankedLeg). l.rank) (get_or-map (ranked_leg H) legs k no_leg none within)) ∙ rank in
+    (within, rank_one H levelled (node_at legs k) w (leg_up H levelled side v (leg_on legs k) (leg_in legs k within)).node low same)
 
 module _ (H : LevelsAndLegs) (lines : Lines) (values : List ℕ) where
   -- the lines of arcs and of those behind them

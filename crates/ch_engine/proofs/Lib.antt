@@ -3,6 +3,7 @@ mod AddingUp
 mod ArcsOfArrays
 mod Filled
 mod FirstLines
+mod Joints
 mod LegSums
 mod FlowsWritten
 mod LineFlows
@@ -15,9 +16,11 @@ mod RouteSums
 mod SameEnds
 mod SeenLines
 pub mod NearRows
+mod NearSums
 mod NearTable
 mod MeetingTrees
 mod PathTrees
+mod PlaceTrees
 mod SparseSets
 mod SumMeets
 mod SumTrees

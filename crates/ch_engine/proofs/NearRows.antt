@@ -40,6 +40,19 @@ begins_stay ends i end (suc m) low = get_or-set_other ends i m end 0 (λ same. o
 pub begin_next : (ends : List ℕ) (i : ℕ) → begin_of ends (i + 1) ≡ get_or ends i 0
 begin_next ends i = let next : i + 1 ≡ suc i = omega arith in subst (λ n. begin_of ends n ≡ get_or ends i 0) (sym next) refl
 
+-- what holds of the rows before with their begins and ends, and of one more, holds of all once its end is written
+pub ends_more : (Is : ℕ → ℕ → ℕ → Type 0) (ends : List ℕ) (i begin end : ℕ) → begin ≡ begin_of ends i → i < length ends →
+    ((k : ℕ) → k < i → Is k (begin_of ends k) (get_or ends k 0)) → Is i begin end →
+    (k : ℕ) → k < i + 1 → Is k (begin_of (set ends i end) k) (get_or (set ends i end) k 0)
+ends_more Is ends i begin end here inside are own k more = elim (cases_order k i) [
+  | inl same ↦ subst (λ (n : ℕ). Is n (begin_of (set ends i end) n) (get_or (set ends i end) n 0)) (sym same)
+      (subst (λ b. Is i b (get_or (set ends i end) i 0)) (here ∙ sym (begins_stay ends i end i (omega arith)))
+      (subst (Is i begin) (sym (get_or-set_same ends i end 0 inside)) own))
+  | inr (inl less) ↦ subst (λ b. Is k b (get_or (set ends i end) k 0)) (sym (begins_stay ends i end k (omega arith)))
+      (subst (Is k (begin_of ends k)) (sym (get_or-set_other ends i k end 0 (λ same. omega arith))) (are k less))
+  | inr (inr past) ↦ absurd (omega arith)
+]
+
 module _ (held : Held) (sources ends weights places weights' places' : List ℕ) (i begin : ℕ) where
   -- the rows before stay, and one more comes after them
   pub rows_more : AreRowsAt held sources ends weights places i → begin ≡ begin_of ends i →
@@ -47,23 +60,12 @@ module _ (held : Held) (sources ends weights places weights' places' : List ℕ)
       Agree begin weights places weights' places' → length weights' ≡ length weights → (row : List (ℕ × ℕ)) →
       IsKeptRow held (get_or sources i 0) row → begin + length row ≤ length weights →
       StandsAt begin row weights' places' → AreRowsAt held sources (set ends i (begin + length row)) weights' places' (i + 1)
-  rows_more are here low inside agree long row kept fits stands k more =
-      let end = begin + length row in
-      let own : IsRowAt held (get_or sources i 0) begin end weights' places' = (row, kept, refl, omega (arith, long, fits), stands) in
-      elim (cases_order k i) [
-        | inl same ↦ subst (λ (n : ℕ). IsRowAt held (get_or sources n 0) (begin_of (set ends i end) n) (get_or (set ends i end) n 0)
-            weights' places') (sym same)
-            (subst (λ b. IsRowAt held (get_or sources i 0) b (get_or (set ends i end) i 0) weights' places')
-            (here ∙ sym (begins_stay ends i end i (omega arith)))
-            (subst (λ e. IsRowAt held (get_or sources i 0) begin e weights' places') (sym (get_or-set_same ends i end 0 inside)) own))
-        | inr (inl less) ↦ subst (λ b. IsRowAt held (get_or sources k 0) b (get_or (set ends i end) k 0) weights' places')
-            (sym (begins_stay ends i end k (omega arith)))
-            (subst (λ e. IsRowAt held (get_or sources k 0) (begin_of ends k) e weights' places')
-            (sym (get_or-set_other ends i k end 0 (λ same. omega arith)))
-            (row_stays held (get_or sources k 0) (begin_of ends k) (get_or ends k 0) begin weights places weights' places'
-            (are k less) (low k less) agree long))
-        | inr (inr past) ↦ absurd (omega arith)
-      ]
+  rows_more are here low inside agree long row kept fits stands =
+      let Is : ℕ → ℕ → ℕ → Type 0 = λ k b e. IsRowAt held (get_or sources k 0) b e weights' places' in
+      ends_more Is ends i begin (begin + length row) here inside
+      (λ k less. row_stays held (get_or sources k 0) (begin_of ends k) (get_or ends k 0) begin weights places weights' places'
+      (are k less) (low k less) agree long)
+      (row, kept, refl, omega (arith, long, fits), stands)
 
 -- no end is above the new one
 pub ends_low : (ends : List ℕ) (i begin end : ℕ) → ((k : ℕ) → k < i → get_or ends k 0 ≤ begin) → begin ≤ end → i < length ends → (k : ℕ) →

@@ -5,15 +5,13 @@ use Rattle.std.proofs.lemmas.Bool.{cases_lt, le-leb, lt-leb}
 use Rattle.std.proofs.lemmas.Nat.{div-mul-add, mod-mul-add}
 use Rattle.std.proofs.lemmas.Option.{same_Some}
 use Rattle.std.proofs.lemmas.List.{get_or-append-add, get_or-map, get_or-replicate, get_or_append_left, length-map, length-replicate}
-use Rattle.std.proofs.lemmas.List.{get_or_push, length-append, length_push}
-use Rattle.std.specs.List.{AllZip}
-use Rattle.std.proofs.lemmas.Slice.Zip.{AllZip-long}
+use Rattle.std.proofs.lemmas.List.{length-append}
 use Rattle.std.proofs.lemmas.List.Elements.{Contains-append_cases, Contains-append_left, Contains-append_right}
 use Rattle.std.proofs.lemmas.List.Elements.{Contains-get_or, Contains-push, Contains-push_cases}
 use Rattle.ch_graph.specs.Rows.{AreRowsOf, pairs_at}
 use Rattle.ch_graph.specs.declared.cost.TheConstants.{UNREACHED}
 use Rattle.ch_graph.specs.declared.limits.TheConstants.{MOST_SUM}
-use Rattle.ch_graph.proofs.Lists.{contains_map, contains_map_of, contains_none, zipped_at}
+use Rattle.ch_graph.proofs.Lists.{contains_map, contains_map_of, contains_none}
 use Rattle.ch_hierarchy.specs.Hierarchy.{LevelsAndLegs}
 use Rattle.ch_hierarchy.specs.declared.side.Side.TheVariants.{Down, Up}
 use Rattle.ch_query.specs.Distance.{IsKeptForSome}
@@ -297,20 +295,3 @@ table_long words row new i n long is size =
 pub cells_none : (H : LevelsAndLegs) (limit : Option ℕ) (sources targets words : List ℕ) → words ≡ [] →
     AreTableCells H limit sources targets words
 cells_none H limit sources targets words none k low = absurd (let size : length words ≡ 0 = ap length none in omega (arith, low, size))
-
--- the only element of a list that is beside one element
-module _ {X Y : Type 0} (R : X → Y → Type 0) (x : X) (ys : List Y) (all : AllZip R (x ∷ []) ys) where
-  one_long : length ys ≡ 1
-  one_long = AllZip-long R (x ∷ []) ys all
-
-  -- there is one
-  pub one_there : length ys ≡ 0 → ⊥
-  one_there none = let long = one_long in omega (arith, none, long)
-
-  -- and it is beside the other
-  pub one_beside : (before : List Y) (y : Y) → ys ≡ before ++ y ∷ [] → R x y
-  one_beside before y is =
-      let size : length ys ≡ length before + 1 = ap length is ∙ length_push before y in
-      let empty : length before ≡ 0 = (let long = one_long in omega (arith, size, long)) in
-      subst (R x) (ap (λ (l : List Y). get_or l 0 y) is ∙ get_or_push before y y 0 empty)
-      (zipped_at R (x ∷ []) ys 0 x y all (omega arith))

@@ -2,6 +2,7 @@
 use Rattle.std.specs.Prelude.{◌≡◌, ◌≢◌, ℕ, ◌-◌, ◌^◌, ◌<◌, List, [], length, slice_index, slice_index_or, None}
 use Rattle.ch_graph.specs.declared.arc.InArc.{InArc}
 use Rattle.ch_hierarchy.specs.declared.leg.Leg.{Leg}
+use Rattle.ch_hierarchy.specs.declared.ranked.RankedLeg.{RankedLeg}
 use Rattle.ch_hierarchy.specs.Rows.{row}
 use Rattle.ch_hierarchy.specs.Hierarchy.{LevelsAndLegs}
 use Rattle.ch_hierarchy.specs.declared.side.Side.{Side}
@@ -20,6 +21,10 @@ unknown = 2 ^ 64 - 1
 -- leg k of a row
 abbrev pub leg_on : List Leg → ℕ → Leg
 leg_on legs k = slice_index_or legs k (record { node = 0; cost = record { weight = 0; arcs = 0 }; middle = None })
+
+-- the rank of leg k of a row by rank
+abbrev pub rank_at : List RankedLeg → ℕ → ℕ
+rank_at legs k = (slice_index_or legs k (record { rank = 0; arcs = 0; weight = 0 })).rank
 
 -- a line for each arc, in order: for an arc to another node the line of the arc between its ends
 pub record AreLinesBetween (H : LevelsAndLegs) (lines : Lines) (arcs : List InArc) (along : List ℕ) : Type 0 where

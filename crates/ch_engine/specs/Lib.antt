@@ -4,6 +4,7 @@ pub mod Held
 pub mod LegSums
 pub mod Lines
 pub mod NearRows
+pub mod NearSums
 pub mod NearTable
 pub mod Refusals
 pub mod Routes
@@ -12,6 +13,7 @@ pub mod Slots
 pub mod Sums
 pub mod Opened
 pub mod PathTrees
+pub mod PlaceTrees
 pub mod Flows
 pub mod Topologies
 pub mod TableSums

@@ -297,3 +297,24 @@ IsRefusalOfKeptSums n values sources targets weights sums Refusal.Lengths = IsSo
 IsRefusalOfKeptSums n values sources targets weights sums Refusal.TooLarge = ⊥
 IsRefusalOfKeptSums n values sources targets weights sums Refusal.NoPlaces = ⊥
 IsRefusalOfKeptSums n values sources targets weights sums Refusal.NoValues = values ≡ None
+
+-- arrays of these lengths have an end for each source, and a weight, a place and a sum for each pair
+abbrev pub AreSummedRowLengths : ℕ → ℕ → ℕ → ℕ → ℕ → Type 0
+AreSummedRowLengths sources ends weights places sums = (sources ≡ ends) × (weights ≡ places) × (sums ≡ places)
+
+-- near rows with sums of these sources can be asked for, with arrays of these lengths: values and places are kept
+abbrev pub AreSummedRowSources : ℕ → Option (List ℕ) → Option Asked → List ℕ → ℕ → ℕ → ℕ → ℕ → Type 0
+AreSummedRowSources n values near sources ends weights places sums = IsSome values
+    × AreSummedRowLengths (length sources) ends weights places sums × IsSome near × AreNodes n sources
+
+-- the reason for refusing them. Values come before lengths, these before the places that are kept, and these before nodes
+abbrev pub IsRefusalOfSummedRows : ℕ → Option (List ℕ) → Option Asked → List ℕ → ℕ → ℕ → ℕ → ℕ → Refusal → Type 0
+IsRefusalOfSummedRows n values near sources ends weights places sums Refusal.NoMemory = ⊥
+IsRefusalOfSummedRows n values near sources ends weights places sums Refusal.NodeRange = IsSome values
+    × AreSummedRowLengths (length sources) ends weights places sums × IsSome near × (AreNodes n sources → ⊥)
+IsRefusalOfSummedRows n values near sources ends weights places sums Refusal.Lengths = IsSome values
+    × (AreSummedRowLengths (length sources) ends weights places sums → ⊥)
+IsRefusalOfSummedRows n values near sources ends weights places sums Refusal.TooLarge = ⊥
+IsRefusalOfSummedRows n values near sources ends weights places sums Refusal.NoPlaces = IsSome values
+    × AreSummedRowLengths (length sources) ends weights places sums × (near ≡ None)
+IsRefusalOfSummedRows n values near sources ends weights places sums Refusal.NoValues = values ≡ None

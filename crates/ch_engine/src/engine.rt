@@ -19,13 +19,16 @@ use crate::kept_values::shared;
 use crate::leg_sums::KeptSums;
 use crate::network::Network;
 use crate::opening::{opened, opened_like, opened_of_arrays, opened_quickly};
+use crate::place_trees::PlaceTrees;
 use crate::slots::Slots;
+use crate::source_tree::SourceTree;
 use crate::sum_trees::TreeRoom;
+use crate::tables::Asked;
 use crate::words::{are_both_nodes, word_of};
 use ch_graph::limits::MOST_LISTED;
 use ch_hierarchy::Hierarchy;
 use ch_query::{Route, Scratch, distance, route};
-use ch_rows::KeptTargets;
+use ch_rows::{Direction, KeptTargets};
 use ch_text::save_text;
 use ch_tree::TreeScratch;
 use std::alloc::{AllocError, Global};
@@ -43,8 +46,12 @@ pub struct Engine {
     by_tree: Option<TreeScratch>,
     /// The places of near rows, if some are kept.
     pub(crate) kept: Option<KeptTargets>,
-    /// The number of these places.
-    pub(crate) places: usize,
+    /// The direction of their distances.
+    pub(crate) direction: Direction,
+    /// Their nodes.
+    pub(crate) places: Vec<u32>,
+    /// Their trees for the kept values, as far as near rows with sums had them.
+    pub(crate) place_trees: Option<PlaceTrees>,
     /// The kept values of lines with the sums along all legs for them, if some are kept.
     pub(crate) values: Option<Arc<KeptSums, Global>>,
     /// The same for the values of the last call that needed such sums for other values than the kept ones.
@@ -53,21 +60,25 @@ pub struct Engine {
     pub(crate) slots: Option<Slots>,
     /// Room for search trees with sums, if they were needed.
     pub(crate) trees: Option<TreeRoom>,
+    /// Room for the tree of a source by node, if it was needed.
+    pub(crate) source_tree: Option<SourceTree>,
 }
 
 impl Model for Engine {
-    ghost use Rattle.std.specs.Prelude.{◌≡◌, MatchOption, length, option_map, ⊤};
+    ghost use Rattle.std.specs.Prelude.{◌≡◌, MatchOption, option_map, ⊤};
     ghost use Rattle.std.specs.Arc.{arc_value};
     ghost use Rattle.ch_hierarchy.specs.Hierarchy.{nodes_of};
     ghost use Rattle.ch_rows.specs.Kept.{AreKeptIn, asked_by};
     ghost use Rattle.ch_engine.specs.Held.{Held};
     ghost use Rattle.ch_engine.specs.LegSums.{AreKeptOfLines, AreKeptSums, values_of};
+    ghost use Rattle.ch_engine.specs.PlaceTrees.{AreKeptTrees};
+    ghost use Rattle.ch_engine.specs.Refusals.{AreNodes};
 
     ghost Value = { Held };
 
     ghost view = { λ engine. record { hierarchy = (arc_value engine.network).0; lines = (arc_value engine.network).1; near = option_map asked_by engine.kept; values = option_map (λ kept. values_of (arc_value kept)) engine.values } };
 
-    ghost invariant = { λ engine. (engine.scratch ≡ nodes_of (arc_value engine.network).0) × MatchOption engine.by_tree ⊤ (λ scratch. scratch ≡ nodes_of (arc_value engine.network).0) × MatchOption engine.kept ⊤ (AreKeptIn (arc_value engine.network).0) × MatchOption engine.kept ⊤ (λ kept. engine.places ≡ length (asked_by kept).targets) × MatchOption engine.values ⊤ (λ kept. AreKeptOfLines (arc_value engine.network).0 (arc_value engine.network).1 (arc_value kept)) × MatchOption engine.sums ⊤ (λ kept. AreKeptSums (arc_value engine.network).0 (arc_value engine.network).1 (arc_value kept)) × MatchOption engine.slots ⊤ (λ slots. slots.numbers ≡ nodes_of (arc_value engine.network).0) };
+    ghost invariant = { λ engine. (engine.scratch ≡ nodes_of (arc_value engine.network).0) × MatchOption engine.by_tree ⊤ (λ scratch. scratch ≡ nodes_of (arc_value engine.network).0) × MatchOption engine.kept ⊤ (AreKeptIn (arc_value engine.network).0) × MatchOption engine.kept ⊤ (λ kept. (engine.direction ≡ (asked_by kept).direction) × (engine.places.items ≡ (asked_by kept).targets)) × MatchOption engine.values ⊤ (λ kept. AreKeptOfLines (arc_value engine.network).0 (arc_value engine.network).1 (arc_value kept)) × MatchOption engine.sums ⊤ (λ kept. AreKeptSums (arc_value engine.network).0 (arc_value engine.network).1 (arc_value kept)) × MatchOption engine.slots ⊤ (λ slots. slots.numbers ≡ nodes_of (arc_value engine.network).0) × MatchOption engine.place_trees ⊤ (AreKeptTrees (record { hierarchy = (arc_value engine.network).0; lines = (arc_value engine.network).1; near = option_map asked_by engine.kept; values = option_map (λ kept. values_of (arc_value kept)) engine.values })) × MatchOption engine.source_tree ⊤ (λ tree. tree.slots.numbers ≡ nodes_of (arc_value engine.network).0) × AreNodes (nodes_of (arc_value engine.network).0) engine.places.items };
 }
 
 impl Engine {
@@ -152,11 +163,14 @@ impl Engine {
             scratch,
             by_tree,
             kept: None,
-            places: 0,
+            direction: Direction::To,
+            places: Vec::new(alloc),
+            place_trees: None,
             values: None,
             sums: None,
             slots: None,
             trees: None,
+            source_tree: None,
         }))
     }
 
@@ -176,11 +190,14 @@ impl Engine {
             scratch,
             by_tree,
             kept: None,
-            places: 0,
+            direction: Direction::To,
+            places: Vec::new(alloc),
+            place_trees: None,
             values,
             sums: None,
             slots: None,
             trees: None,
+            source_tree: None,
         })
     }
 
@@ -292,13 +309,17 @@ impl Engine {
             return Err(Refusal::NoMemory);
         };
         // No cell is written before there is memory for all.
-        let words = self.network.table_words(
-            alloc,
-            &mut self.scratch,
-            slots,
+        let asked = Asked {
             sources,
             targets,
             within,
+        };
+        let words = self.network.table_words(
+            alloc,
+            &mut self.scratch,
+            &mut self.by_tree,
+            slots,
+            asked,
             out.len(),
         )?;
         out.copy_from_slice(&words);

@@ -14,8 +14,8 @@ use std::alloc::{AllocError, Global};
 use std::sync::Arc;
 
 impl Engine {
-    /// Keeps a value for each line of the graph, such as its metres, for [`Engine::kept_table_sums`]. They replace the values
-    /// that were kept. It takes a step for each leg of the hierarchy, unless the same values are kept already.
+    /// Keeps a value for each line of the graph, such as its metres, for [`Engine::kept_table_sums`] and
+    /// [`Engine::kept_near_sums`]. They replace the values that were kept. It takes a step for each leg of the hierarchy, unless the same values are kept already.
     ///
     /// # Errors
     /// `Lengths` if there is not a value for each line; or `NoMemory`. Then the values that were kept stay.
@@ -29,6 +29,7 @@ impl Engine {
         }
         let kept = self.sums_for(alloc, values)?;
         self.values = Some(kept);
+        self.place_trees = None;
         Ok(())
     }
 

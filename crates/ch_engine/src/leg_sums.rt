@@ -1,22 +1,25 @@
 //! Sums of values along the legs of a hierarchy.
-ghost use Rattle.std.specs.Prelude.{◌≡◌, ◌≢◌, ◌+◌, ◌<◌, ℕ, List, Some, length, slice_index, Contains, IfOk, OnOk};
+ghost use Rattle.std.specs.Prelude.{◌≡◌, ◌≢◌, ◌+◌, ◌<◌, ℕ, List, Some, length, slice_index, Contains, IfOk, MatchOption, OnOk, ⊤};
 ghost use Rattle.std.specs.Arc.{arc_value};
 ghost use Rattle.ch_hierarchy.specs.declared.leg.Leg.{Leg as AnyLeg};
 ghost use Rattle.ch_hierarchy.specs.Hierarchy.{nodes_of};
 ghost use Rattle.ch_hierarchy.specs.Rows.{row as the_row_of};
 ghost use Rattle.ch_hierarchy.specs.Side.{rows_of};
-ghost use Rattle.ch_engine.specs.LegSums.{AreKeptSums, AreLegSums, AreLegWords, IsLegSum, IsLegWord, IsRowLegSum, IsWordIn, leg_on, unknown};
+ghost use Rattle.ch_engine.specs.LegSums.{AreKeptSums, AreLegSums, AreLegWords, IsLegSum, IsLegWord, IsRowLegSum, IsWordIn, leg_on, rank_at, unknown};
 ghost use Rattle.ch_engine.specs.Lines.{Lines};
 
 use crate::lines::place_in;
 use crate::network::Network;
 use ch_graph::Rows;
-use ch_hierarchy::{Hierarchy, Leg, Side};
+use ch_hierarchy::{Hierarchy, Leg, RankedLeg, Side};
 use std::alloc::{AllocError, Global};
 use std::sync::Arc;
 
 /// The word for a sum that is not known, because it or a part of it is too large.
 pub(crate) const UNKNOWN: u64 = u64::MAX;
+
+/// Up to so many legs in a row, a look at each takes less time than a binary search.
+const SHORT: usize = 32;
 
 /// For each leg of a hierarchy a word: the sum of the values on the lines of the arcs that it stands for, or
 /// [`UNKNOWN`].
@@ -61,6 +64,29 @@ impl LegSums {
         ensures { (lines : Lines) (values : List ℕ) → AreLegSums hierarchy.now lines values self.now → result ≢ unknown → (leg : AnyLeg) × Contains (the_row_of (rows_of hierarchy.now side) node) leg × (leg.node ≡ other) × IsRowLegSum side hierarchy.now lines values node leg result }
     {
         match place_in(hierarchy.legs(side, node), other) {
+            Some(place) => self.word(hierarchy, side, node, place),
+            None => UNKNOWN,
+        }
+    }
+
+    /// Like [`LegSums::word_at`], by the legs by rank. A search has just read these, so they are near, and a row of them is
+    /// short.
+    pub(crate) fn word_by_rank(
+        &self,
+        hierarchy: &Hierarchy,
+        side: Side,
+        node: u32,
+        other: u32,
+    ) -> u64
+        requires node { node < nodes_of hierarchy.now }
+        requires other { other < nodes_of hierarchy.now }
+        ensures { (lines : Lines) (values : List ℕ) → AreLegSums hierarchy.now lines values self.now → result ≢ unknown → (leg : AnyLeg) × Contains (the_row_of (rows_of hierarchy.now side) node) leg × (leg.node ≡ other) × IsRowLegSum side hierarchy.now lines values node leg result }
+    {
+        let legs = hierarchy.ranked_legs(side, hierarchy.rank(node));
+        if legs.len() > SHORT {
+            return self.word_at(hierarchy, side, node, other);
+        }
+        match place_of_rank(legs, hierarchy.rank(other)) {
             Some(place) => self.word(hierarchy, side, node, place),
             None => UNKNOWN,
         }
@@ -167,6 +193,18 @@ impl Network {
             },
         }
     }
+}
+
+/// Returns the place of the leg at the node of this rank, if there is one.
+fn place_of_rank(legs: &[RankedLeg], rank: u32) -> Option<usize>
+    ensures { MatchOption result ⊤ (λ k. (k < length legs.now) × (rank_at legs.now k ≡ rank)) }
+{
+    for k in 0..legs.len() {
+        if legs[k].rank == rank {
+            return Some(k);
+        }
+    }
+    None
 }
 
 /// Returns the word at a place in a row, or [`UNKNOWN`] if it is not there.

@@ -43,8 +43,11 @@ impl Engine {
         }
         let hierarchy = self.network.hierarchy();
         let kept = KeptTargets::search(alloc, hierarchy, direction, places, within, count)?;
+        let nodes = Vec::from_slice(alloc, places)?;
         self.kept = Some(kept);
-        self.places = places.len();
+        self.direction = direction;
+        self.places = nodes;
+        self.place_trees = None;
         Ok(())
     }
 
@@ -178,7 +181,7 @@ impl Engine {
         if !kept.is_whole() {
             return Err(Refusal::NoPlaces);
         }
-        if sources.len().checked_mul(self.places) != Some(cells.len()) {
+        if sources.len().checked_mul(self.places.len()) != Some(cells.len()) {
             return Err(Refusal::Lengths);
         }
         if !are_nodes(sources, self.nodes()) {
@@ -233,7 +236,7 @@ impl Engine {
 }
 
 /// Writes the weights and the places of a row from the place `begin` on.
-fn write_row(row: &[(u64, u32)], begin: usize, weights: &mut [u64], places: &mut [u32])
+pub(crate) fn write_row(row: &[(u64, u32)], begin: usize, weights: &mut [u64], places: &mut [u32])
     requires room { begin + length row.now ≤ length weights.old }
     requires lengths { length weights.old ≡ length places.old }
     ensures stands { StandsAt begin row.now weights.new places.new }

@@ -31,7 +31,7 @@ impl Slots {
     ///
     /// # Errors
     /// `AllocError` if there is no memory.
-    fn new(alloc: Global, numbers: u32) -> Result<Slots, AllocError>
+    pub(crate) fn new(alloc: Global, numbers: u32) -> Result<Slots, AllocError>
         ensures { IfOk result (λ slots. slots ≡ record { numbers = numbers; names = [] }) }
     {
         let hints = vec![in alloc; 0; numbers as usize]?;

@@ -36,6 +36,15 @@ pub(crate) struct Stops<'a> {
     pub(crate) rows: Rows<Stop>,
 }
 
+/// A table that is made, with the values along the routes of its cells.
+#[derive(Drop)]
+pub(crate) struct SumTable<'a> {
+    pub(crate) alloc: Global,
+    pub(crate) kept: &'a KeptSums,
+    pub(crate) sources: &'a [u32],
+    pub(crate) targets: &'a [u32],
+}
+
 /// A node where two trees meet, with the sums of their costs and of their sums there.
 #[derive(Clone, Copy)]
 pub(crate) struct Met {
@@ -84,24 +93,22 @@ impl Network {
     /// `AllocError` if there is no memory.
     pub(crate) fn find_row(
         &self,
-        alloc: Global,
         scratch: &mut Scratch,
-        kept: &KeptSums,
+        table: &SumTable<'_>,
         source: u32,
-        targets: &[u32],
         stops: &Stops<'_>,
         room: &mut TreeRoom,
     ) -> Result<Vec<Option<Met>>, AllocError>
         requires scratch { scratch.old ≡ nodes_of self.now.0 }
         requires source { source < nodes_of self.now.0 }
-        requires kept { AreKeptSums self.now.0 self.now.1 kept.now }
+        requires kept { AreKeptSums self.now.0 self.now.1 table.now.kept.now }
         requires count { length stops.now.rows ≡ length stops.now.slots.now.names }
-        requires stops { AreStops self.now.0 self.now.1 kept.now.values.items targets.now stops.now.slots.now.names stops.now.rows }
-        ensures row { IfOk result (λ row. AreCells self.now.0 self.now.1 kept.now.values.items source targets.now row.items) }
+        requires stops { AreStops self.now.0 self.now.1 table.now.kept.now.values.items table.now.targets.now stops.now.slots.now.names stops.now.rows }
+        ensures row { IfOk result (λ row. AreCells self.now.0 self.now.1 table.now.kept.now.values.items source table.now.targets.now row.items) }
         ensures scratch { scratch.new ≡ scratch.old }
     {
-        self.find_branches(alloc, scratch, kept, Side::Up, source, room)?;
-        let mut row = unmet(alloc, targets.len())?;
+        self.find_branches(table.alloc, scratch, table.kept, Side::Up, source, room)?;
+        let mut row = unmet(table.alloc, table.targets.len())?;
         meet_branches(&room.branches, stops, row.as_mut_slice());
         Ok(row)
     }
@@ -182,7 +189,7 @@ fn meet_stops(branch: Branch, stops: &[Stop], row: &mut [Option<Met>])
     for j in 0..stops.len() {
         let stop = stops[j];
         let met = meet(branch, stop);
-        row[stop.place] = first_met(row[stop.place], met);
+        put_first(&mut row[stop.place], met);
     }
 }
 
@@ -202,15 +209,16 @@ fn meet(branch: Branch, stop: Stop) -> Met
     }
 }
 
-/// Returns the first of the two, by cost and then by node.
+/// Puts a meeting into a cell, unless what is there comes first: by cost, and then by node. Most cells stay as they are, so
+/// they are not written again.
 #[inline]
-fn first_met(old: Option<Met>, new: Met) -> Option<Met>
-    ensures { IsFirstMet old new result }
+fn put_first(cell: &mut Option<Met>, new: Met)
+    ensures { IsFirstMet cell.old new cell.new }
 {
-    if let Some(known) = old {
+    if let Some(known) = cell {
         if known.cost < new.cost || known.cost == new.cost && known.node <= new.node {
-            return old;
+            return;
         }
     }
-    Some(new)
+    *cell = Some(new);
 }

@@ -137,10 +137,10 @@ fn sum_back(
     if entry.node == source {
         return 0;
     }
-    if entry.parent >= hierarchy.nodes() {
+    if entry.parent >= hierarchy.nodes() || entry.node >= hierarchy.nodes() {
         return UNKNOWN;
     }
-    let here = sums.word_at(hierarchy, side, entry.parent, entry.node);
+    let here = sums.word_by_rank(hierarchy, side, entry.parent, entry.node);
     joined(here, sum_at(places, branches, entry.parent))
 }
 

@@ -38,7 +38,7 @@ impl Engine {
             return Err(Refusal::NoPlaces);
         }
         let room = sources.len().checked_mul(limits.len());
-        if values.len() != self.places || room != Some(sums.len()) {
+        if values.len() != self.places.len() || room != Some(sums.len()) {
             return Err(Refusal::Lengths);
         }
         if !are_nodes(sources, self.nodes()) {

@@ -17,7 +17,7 @@ use crate::network::Network;
 use crate::route_sums::write_pair;
 use crate::routes::weight_of;
 use crate::slots::Slots;
-use crate::sum_meets::{Met, Stops};
+use crate::sum_meets::{Met, Stops, SumTable};
 use crate::sum_trees::TreeRoom;
 use crate::words::{NO_DISTANCE, are_both_nodes};
 use crate::written::{Summed, SumsEnd};
@@ -71,7 +71,7 @@ impl Engine {
     }
 
     /// Writes the same as [`Engine::table_sums`] for the values that [`Engine::keep_values`] keeps, without a look at all of
-    /// them. A table takes two to four times as long as one of [`Engine::table`], on a network of any size.
+    /// them. A table takes about twice as long as one of [`Engine::table`], on a network of any size.
     ///
     /// # Errors
     /// `NoValues` if no values are kept, otherwise `Lengths` if the lengths do not fit, otherwise `NodeRange` if a number is no
@@ -107,12 +107,12 @@ impl Engine {
         Ok(self.write_table_sums(alloc, &kept, sources, targets, weights, sums))
     }
 
-    fn write_table_sums(
+    fn write_table_sums<'a>(
         &mut self,
         alloc: Global,
-        kept: &KeptSums,
-        sources: &[u32],
-        targets: &[u32],
+        kept: &'a KeptSums,
+        sources: &'a [u32],
+        targets: &'a [u32],
         weights: &mut [u64],
         sums: &mut [u64],
     ) -> Summed
@@ -139,29 +139,31 @@ impl Engine {
         let Some(room) = &mut self.trees else {
             return none;
         };
-        self.network.write_table(
+        let table = SumTable {
             alloc,
-            &mut self.scratch,
             kept,
             sources,
             targets,
-            slots,
-            room,
-            weights,
-            sums,
-        )
+        };
+        self.network
+            .write_table(&mut self.scratch, &table, slots, room, weights, sums)
     }
+}
+
+/// Where a row of a table begins.
+#[derive(Clone, Copy)]
+struct Start {
+    source: u32,
+    /// The place of its first cell.
+    first: usize,
 }
 
 impl Network {
     /// Writes the cells of all rows, one row after the other.
     fn write_table(
         &self,
-        alloc: Global,
         scratch: &mut Scratch,
-        kept: &KeptSums,
-        sources: &[u32],
-        targets: &[u32],
+        table: &SumTable<'_>,
         slots: &mut Slots,
         room: &mut TreeRoom,
         weights: &mut [u64],
@@ -170,36 +172,32 @@ impl Network {
         requires scratch { scratch.old ≡ nodes_of self.now.0 }
         requires slots { slots.old.numbers ≡ nodes_of self.now.0 }
         requires lines { IsOfSome self.now.0 self.now.1 }
-        requires kept { AreKeptSums self.now.0 self.now.1 kept.now }
-        requires cells { (length weights.old ≡ length sources.now * length targets.now) × (length sums.old ≡ length sources.now * length targets.now) }
-        requires values { length kept.now.values.items ≡ self.now.1.count }
-        requires sources { AreNodes (nodes_of self.now.0) sources.now }
-        requires targets { AreNodes (nodes_of self.now.0) targets.now }
-        ensures written { AreTableSumsWritten (only self.now.0 self.now.1) sources.now targets.now kept.now.values.items weights.new sums.new result }
+        requires kept { AreKeptSums self.now.0 self.now.1 table.now.kept.now }
+        requires cells { (length weights.old ≡ length table.now.sources.now * length table.now.targets.now) × (length sums.old ≡ length table.now.sources.now * length table.now.targets.now) }
+        requires values { length table.now.kept.now.values.items ≡ self.now.1.count }
+        requires sources { AreNodes (nodes_of self.now.0) table.now.sources.now }
+        requires targets { AreNodes (nodes_of self.now.0) table.now.targets.now }
+        ensures written { AreTableSumsWritten (only self.now.0 self.now.1) table.now.sources.now table.now.targets.now table.now.kept.now.values.items weights.new sums.new result }
         ensures behind { StaysFrom result.count weights.old weights.new × StaysFrom result.count sums.old sums.new }
         ensures slots { slots.new.numbers ≡ slots.old.numbers }
         ensures scratch { scratch.new ≡ scratch.old }
     {
-        let Ok(rows) = self.find_stops(alloc, scratch, kept, targets, slots, room) else {
+        let (kept, targets) = (table.kept, table.targets);
+        let Ok(rows) = self.find_stops(table.alloc, scratch, kept, targets, slots, room) else {
             return ended(0, SumsEnd::NoMemory);
         };
         let stops = Stops {
             slots: &*slots,
             rows,
         };
-        self.write_rows(
-            alloc, scratch, kept, sources, targets, &stops, room, weights, sums,
-        )
+        self.write_rows(scratch, table, &stops, room, weights, sums)
     }
 
     /// Writes the cells of all rows, by the stops of all targets.
     fn write_rows(
         &self,
-        alloc: Global,
         scratch: &mut Scratch,
-        kept: &KeptSums,
-        sources: &[u32],
-        targets: &[u32],
+        table: &SumTable<'_>,
         stops: &Stops<'_>,
         room: &mut TreeRoom,
         weights: &mut [u64],
@@ -207,23 +205,25 @@ impl Network {
     ) -> Summed
         requires scratch { scratch.old ≡ nodes_of self.now.0 }
         requires lines { IsOfSome self.now.0 self.now.1 }
-        requires kept { AreKeptSums self.now.0 self.now.1 kept.now }
-        requires cells { (length weights.old ≡ length sources.now * length targets.now) × (length sums.old ≡ length sources.now * length targets.now) }
-        requires values { length kept.now.values.items ≡ self.now.1.count }
-        requires sources { AreNodes (nodes_of self.now.0) sources.now }
-        requires targets { AreNodes (nodes_of self.now.0) targets.now }
+        requires kept { AreKeptSums self.now.0 self.now.1 table.now.kept.now }
+        requires cells { (length weights.old ≡ length table.now.sources.now * length table.now.targets.now) × (length sums.old ≡ length table.now.sources.now * length table.now.targets.now) }
+        requires values { length table.now.kept.now.values.items ≡ self.now.1.count }
+        requires sources { AreNodes (nodes_of self.now.0) table.now.sources.now }
+        requires targets { AreNodes (nodes_of self.now.0) table.now.targets.now }
         requires count { length stops.now.rows ≡ length stops.now.slots.now.names }
-        requires stops { AreStops self.now.0 self.now.1 kept.now.values.items targets.now stops.now.slots.now.names stops.now.rows }
-        ensures written { AreTableSumsWritten (only self.now.0 self.now.1) sources.now targets.now kept.now.values.items weights.new sums.new result }
+        requires stops { AreStops self.now.0 self.now.1 table.now.kept.now.values.items table.now.targets.now stops.now.slots.now.names stops.now.rows }
+        ensures written { AreTableSumsWritten (only self.now.0 self.now.1) table.now.sources.now table.now.targets.now table.now.kept.now.values.items weights.new sums.new result }
         ensures behind { StaysFrom result.count weights.old weights.new × StaysFrom result.count sums.old sums.new }
         ensures scratch { scratch.new ≡ scratch.old }
     {
         let mut first = 0;
-        for i in 0..sources.len() {
-            let source = sources[i];
-            let (count, end) = self.write_row(
-                alloc, scratch, kept, source, targets, stops, room, first, weights, sums,
-            );
+        for i in 0..table.sources.len() {
+            let source = table.sources[i];
+            let Ok(row) = self.find_row(scratch, table, source, stops, room) else {
+                return ended(first, SumsEnd::NoMemory);
+            };
+            let start = Start { source, first };
+            let (count, end) = self.write_row(scratch, table, start, &row, weights, sums);
             first += count;
             if !is_all(end) {
                 return ended(first, end);
@@ -232,79 +232,39 @@ impl Network {
         ended(first, SumsEnd::All)
     }
 
-    /// Finds where the trees of a row meet, and writes its cells from the place `first` on. Returns their number, and why
-    /// no more were written.
+    /// Writes the cells of a row. Returns their number, and why no more were written.
     fn write_row(
         &self,
-        alloc: Global,
         scratch: &mut Scratch,
-        kept: &KeptSums,
-        source: u32,
-        targets: &[u32],
-        stops: &Stops<'_>,
-        room: &mut TreeRoom,
-        first: usize,
-        weights: &mut [u64],
-        sums: &mut [u64],
-    ) -> (usize, SumsEnd)
-        requires scratch { scratch.old ≡ nodes_of self.now.0 }
-        requires source { source < nodes_of self.now.0 }
-        requires targets { AreNodes (nodes_of self.now.0) targets.now }
-        requires values { length kept.now.values.items ≡ self.now.1.count }
-        requires lines { IsOfSome self.now.0 self.now.1 }
-        requires kept { AreKeptSums self.now.0 self.now.1 kept.now }
-        requires count { length stops.now.rows ≡ length stops.now.slots.now.names }
-        requires stops { AreStops self.now.0 self.now.1 kept.now.values.items targets.now stops.now.slots.now.names stops.now.rows }
-        requires fits { (first + length targets.now ≤ length weights.old) × (first + length targets.now ≤ length sums.old) }
-        ensures cells { AreRowSums (only self.now.0 self.now.1) kept.now.values.items source targets.now first weights.new sums.new result.0 }
-        ensures end { IsRowEnd (only self.now.0 self.now.1) kept.now.values.items source targets.now result.0 result.1 }
-        ensures before { (k : ℕ) → k < first → (slice_index weights.new k ≡ slice_index weights.old k) × (slice_index sums.new k ≡ slice_index sums.old k) }
-        ensures behind { StaysFrom (first + result.0) weights.old weights.new × StaysFrom (first + result.0) sums.old sums.new }
-        ensures lengths { (length weights.new ≡ length weights.old) × (length sums.new ≡ length sums.old) }
-        ensures scratch { scratch.new ≡ scratch.old }
-    {
-        let Ok(row) = self.find_row(alloc, scratch, kept, source, targets, stops, room) else {
-            return (0, SumsEnd::NoMemory);
-        };
-        self.write_row_sums(
-            alloc, scratch, kept, source, targets, &row, first, weights, sums,
-        )
-    }
-
-    /// Writes the cells of a row from the place `first` on. Returns their number, and why no more were written.
-    fn write_row_sums(
-        &self,
-        alloc: Global,
-        scratch: &mut Scratch,
-        kept: &KeptSums,
-        source: u32,
-        targets: &[u32],
+        table: &SumTable<'_>,
+        start: Start,
         row: &[Option<Met>],
-        first: usize,
         weights: &mut [u64],
         sums: &mut [u64],
     ) -> (usize, SumsEnd)
         requires scratch { scratch.old ≡ nodes_of self.now.0 }
-        requires source { source < nodes_of self.now.0 }
-        requires targets { AreNodes (nodes_of self.now.0) targets.now }
-        requires values { length kept.now.values.items ≡ self.now.1.count }
+        requires source { start.source < nodes_of self.now.0 }
+        requires targets { AreNodes (nodes_of self.now.0) table.now.targets.now }
+        requires values { length table.now.kept.now.values.items ≡ self.now.1.count }
         requires lines { IsOfSome self.now.0 self.now.1 }
-        requires row { AreCells self.now.0 self.now.1 kept.now.values.items source targets.now row.now }
-        requires fits { (first + length targets.now ≤ length weights.old) × (first + length targets.now ≤ length sums.old) }
-        ensures cells { AreRowSums (only self.now.0 self.now.1) kept.now.values.items source targets.now first weights.new sums.new result.0 }
-        ensures end { IsRowEnd (only self.now.0 self.now.1) kept.now.values.items source targets.now result.0 result.1 }
-        ensures before { (k : ℕ) → k < first → (slice_index weights.new k ≡ slice_index weights.old k) × (slice_index sums.new k ≡ slice_index sums.old k) }
-        ensures behind { StaysFrom (first + result.0) weights.old weights.new × StaysFrom (first + result.0) sums.old sums.new }
+        requires row { AreCells self.now.0 self.now.1 table.now.kept.now.values.items start.source table.now.targets.now row.now }
+        requires fits { (start.first + length table.now.targets.now ≤ length weights.old) × (start.first + length table.now.targets.now ≤ length sums.old) }
+        ensures cells { AreRowSums (only self.now.0 self.now.1) table.now.kept.now.values.items start.source table.now.targets.now start.first weights.new sums.new result.0 }
+        ensures end { IsRowEnd (only self.now.0 self.now.1) table.now.kept.now.values.items start.source table.now.targets.now result.0 result.1 }
+        ensures before { (k : ℕ) → k < start.first → (slice_index weights.new k ≡ slice_index weights.old k) × (slice_index sums.new k ≡ slice_index sums.old k) }
+        ensures behind { StaysFrom (start.first + result.0) weights.old weights.new × StaysFrom (start.first + result.0) sums.old sums.new }
         ensures lengths { (length weights.new ≡ length weights.old) × (length sums.new ≡ length sums.old) }
         ensures scratch { scratch.new ≡ scratch.old }
     {
-        for c in 0..targets.len() {
-            match self.cell_sum(alloc, scratch, kept, source, targets[c], row[c]) {
+        let Start { source, first } = start;
+        let (alloc, kept) = (table.alloc, table.kept);
+        for c in 0..table.targets.len() {
+            match self.cell_sum(alloc, scratch, kept, source, table.targets[c], row[c]) {
                 Ok((weight, sum)) => write_pair(first + c, weight, sum, weights, sums),
                 Err(end) => return (c, end),
             }
         }
-        (targets.len(), SumsEnd::All)
+        (table.targets.len(), SumsEnd::All)
     }
 
     /// Returns the weight and the sum of a cell whose trees meet here, or why there are none.

@@ -39,3 +39,25 @@ pub enum SumsEnd {
     /// There was no memory for the row of the next source, or for the route of the next pair.
     NoMemory,
 }
+
+/// The number of near rows that were written with their sums, and why no more were.
+#[derive(Clone, Copy, Debug, PartialEq, Eq)]
+pub struct SummedRows {
+    /// The number of rows. They are those of the first sources.
+    pub count: u64,
+    /// The reason why no more were written.
+    pub end: RowsEnd,
+}
+
+/// The reason why no more near rows were written with their sums.
+#[derive(Clone, Copy, Debug, PartialEq, Eq)]
+pub enum RowsEnd {
+    /// All were written.
+    All,
+    /// The next one needs more room than the arrays have left.
+    NoRoom,
+    /// A sum of the next one is 2^64 or more.
+    TooLarge,
+    /// There was no memory for the next one.
+    NoMemory,
+}

@@ -1,5 +1,5 @@
 -- A search without a queue: the legs of the ancestors of its source are taken, one ancestor after the other.
-use Rattle.std.specs.Prelude.{◌≡◌, ◌≢◌, ℕ, ◌+◌, ◌<◌, ◌≤◌, ◌⊎◌, true, List, length, slice_index, slice_set, Contains, Option, Some}
+use Rattle.std.specs.Prelude.{◌≡◌, ◌≢◌, ℕ, ◌+◌, ◌<◌, ◌≤◌, ◌⊎◌, List, length, slice_index, slice_set, Contains, Option, Some}
 use Rattle.ch_graph.specs.declared.limits.TheConstants.{MOST_WEIGHT}
 use Rattle.ch_graph.specs.declared.cost.Cost.{Cost}
 use Rattle.ch_graph.specs.Cost.{cost_sum, no_cost, cost_at}
@@ -9,6 +9,7 @@ use Rattle.ch_hierarchy.specs.Rows.{row}
 use Rattle.ch_hierarchy.specs.Side.{rows_of}
 use Rattle.ch_hierarchy.specs.Hierarchy.{LevelsAndLegs, nodes_of, IsLevelled}
 use Rattle.ch_hierarchy.specs.Ranked.{rank_of}
+use Rattle.ch_query.specs.declared.question.Question.{Question}
 use Rattle.ch_query.specs.declared.sides.search.Search.{Search}
 use Rattle.ch_query.specs.ByNode.{costs_of, parents_of}
 use Rattle.ch_query.specs.Meeting.{IsFoundBy}
@@ -66,29 +67,29 @@ pub record IsPartPass (rows : List (List Leg)) (s : ℕ) (Taken Final : ℕ → 
   pub known : cost_at best v ≡ Some c
   pub relaxed : (l : Leg) → Contains legs l → IsRelaxedFrom MOST_WEIGHT best c l × IsNoEarlier MOST_WEIGHT best parents v c l
 
--- a search that has no queue, for paths of any weight within the limits. It has reached some of these nodes and no others
+-- a search that has no queue. It has reached some of these nodes and no others
 pub record IsUnqueued (H : LevelsAndLegs) (ranks : List ℕ) (x : Search) : Type 0 where
   pub levelled : IsLevelled H
   pub sizes : IsSized (nodes_of H) x
   pub touched : IsTouched x.labels.costs x.touched
   pub queue : IsEmpty x.queue
-  pub stalls : x.stalls ≡ true
-  pub most : x.most ≡ MOST_WEIGHT
   pub listed : (v : ℕ) (c : Cost) → cost_at (costs_of H x) v ≡ Some c → IsAmong H ranks (length ranks) v
 
 -- the legs of the first `count` ancestors were taken
-pub record IsClimbing (H : LevelsAndLegs) (ranks : List ℕ) (count : ℕ) (x : Search) : Type 0 where
+pub record IsClimbing (H : LevelsAndLegs) (q : Question) (ranks : List ℕ) (count : ℕ) (x : Search) : Type 0 where
   pub search : IsUnqueued H ranks x
-  pub pass : IsPass (rows_of H x.side) x.source (IsAmong H ranks count) (IsAmong H ranks count) (costs_of H x) (parents_of H x)
+  pub pass : IsPass (rows_of H q.side) q.source (IsAmong H ranks count) (IsAmong H ranks count) (costs_of H x) (parents_of H x)
 
 -- so were these legs of the next ancestor v, whose cost is c
-pub record IsTakingLegs (H : LevelsAndLegs) (ranks : List ℕ) (count v : ℕ) (c : Cost) (legs : List Leg) (x : Search) : Type 0 where
+pub record IsTakingLegs (H : LevelsAndLegs) (q : Question) (ranks : List ℕ) (count v : ℕ) (c : Cost) (legs : List Leg)
+    (x : Search) : Type 0 where
   pub search : IsUnqueued H ranks x
-  pub part : IsPartPass (rows_of H x.side) x.source (IsAmong H ranks count) (IsAmong H ranks (count + 1)) (costs_of H x)
+  pub part : IsPartPass (rows_of H q.side) q.source (IsAmong H ranks count) (IsAmong H ranks (count + 1)) (costs_of H x)
       (parents_of H x) v c legs
 
 -- the least sum is at most that of each of the first `count` nodes that both searches have reached, and is that of two paths
-pub record AreMetTo (H : LevelsAndLegs) (ranks : List ℕ) (count : ℕ) (x y : Search) (least : Option (Cost × ℕ)) : Type 0 where
+pub record AreMetTo (H : LevelsAndLegs) (q r : Question) (ranks : List ℕ) (count : ℕ) (x y : Search) (least : Option (Cost × ℕ)) : Type 0
+    where
   pub seen : (v : ℕ) (a b : Cost) → IsAmong H ranks count v → cost_at (costs_of H x) v ≡ Some a → cost_at (costs_of H y) v ≡ Some b →
       (e : Cost × ℕ) × (least ≡ Some e) × MeetsFirst e (cost_sum a b, v)
-  pub found : IsFoundBy H x y least
+  pub found : IsFoundBy H q r least

@@ -3,6 +3,7 @@ pub mod Values
 pub mod Distance
 pub mod Limits
 pub mod Labels
+pub mod Questions
 pub mod Search
 pub mod Parents
 pub mod ByNode

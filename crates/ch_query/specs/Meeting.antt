@@ -1,10 +1,10 @@
 -- Two searches of the program that look for a node where they meet.
-use Rattle.std.specs.Prelude.{◌≡◌, ℕ, ◌⊎◌, true, Option, Some, None}
-use Rattle.ch_graph.specs.declared.limits.TheConstants.{MOST_WEIGHT}
+use Rattle.std.specs.Prelude.{◌≡◌, ℕ, ◌⊎◌, Option, Some, None}
 use Rattle.ch_graph.specs.declared.cost.Cost.{Cost}
 use Rattle.ch_graph.specs.Cost.{cost_sum}
 use Rattle.ch_hierarchy.specs.Hierarchy.{LevelsAndLegs}
 use Rattle.ch_hierarchy.specs.Side.{rows_of}
+use Rattle.ch_query.specs.declared.question.Question.{Question}
 use Rattle.ch_query.specs.declared.sides.search.Search.{Search}
 use Rattle.ch_query.specs.Search.{IsSettled, IsUpwardCost}
 use Rattle.ch_query.specs.TwoSided.{MeetsFirst, IsSeen}
@@ -23,20 +23,17 @@ IsLeastAfter None v c least result = result ≡ least
 IsLeastAfter (Some d) v c least result = IsFirst least (cost_sum c d, v) result
 
 -- the least sum is the sum of the costs of two paths
-abbrev pub IsFoundBy : LevelsAndLegs → Search → Search → Option (Cost × ℕ) → Type 0
-IsFoundBy H x y least =
-    (e : Cost × ℕ) → least ≡ Some e → (a b : Cost) × IsUpwardCost (rows_of H x.side) x.source e.1 a
-    × IsUpwardCost (rows_of H y.side) y.source e.1 b × (cost_sum a b ≡ e.0)
+abbrev pub IsFoundBy : LevelsAndLegs → Question → Question → Option (Cost × ℕ) → Type 0
+IsFoundBy H q r least =
+    (e : Cost × ℕ) → least ≡ Some e → (a b : Cost) × IsUpwardCost (rows_of H q.side) q.source e.1 a
+    × IsUpwardCost (rows_of H r.side) r.source e.1 b × (cost_sum a b ≡ e.0)
 
--- two searches that stall, for paths of any weight within the limits; the least sum covers all nodes that both have
--- settled
-pub record AreMeeting (H : LevelsAndLegs) (x y : Search) (least : Option (Cost × ℕ)) : Type 0 where
-  pub here : IsUnderway H x
-  pub there : IsUnderway H y
-  pub stalls : (x.stalls ≡ true) × (y.stalls ≡ true)
-  pub most : (x.most ≡ MOST_WEIGHT) × (y.most ≡ MOST_WEIGHT)
+-- searches for two questions; the least sum covers all nodes that both have settled
+pub record AreMeeting (H : LevelsAndLegs) (q r : Question) (x y : Search) (least : Option (Cost × ℕ)) : Type 0 where
+  pub here : IsUnderway H q x
+  pub there : IsUnderway H r y
   pub seen : IsSeen (costs_of H x) (keys_of H x) (costs_of H y) (keys_of H y) least
-  pub found : IsFoundBy H x y least
+  pub found : IsFoundBy H q r least
 
 -- no node is settled yet
 abbrev pub IsFresh : LevelsAndLegs → Search → Type 0

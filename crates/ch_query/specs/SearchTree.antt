@@ -6,6 +6,7 @@ use Rattle.ch_hierarchy.specs.Hierarchy.{LevelsAndLegs, nodes_of}
 use Rattle.ch_hierarchy.specs.Ranked.{rank_of}
 use Rattle.ch_hierarchy.specs.declared.side.Side.{Side}
 use Rattle.ch_hierarchy.specs.Side.{rows_of}
+use Rattle.ch_query.specs.declared.question.Question.{Question}
 use Rattle.ch_query.specs.declared.sides.search.Search.{Search}
 use Rattle.ch_query.specs.declared.sides.growing.TreeNode.{TreeNode}
 use Rattle.ch_query.specs.ByNode.{costs_of, keys_of, parents_of}
@@ -30,9 +31,9 @@ pub record IsSearchTree (H : LevelsAndLegs) (side : Side) (s : ℕ) (tree : List
       (steps : List DescentStep) × IsDescent (rows_of H side) s v steps × FollowsParents parents v steps
 
 -- ranks of nodes, among them those of all settled nodes that are not idle
-pub record AreUnstalled (H : LevelsAndLegs) (x : Search) (ranks : List ℕ) : Type 0 where
+pub record AreUnstalled (H : LevelsAndLegs) (q : Question) (x : Search) (ranks : List ℕ) : Type 0 where
   pub within : All (λ rank. rank < nodes_of H) ranks
-  pub whole : (v : ℕ) (c : Cost) → IsSettled (costs_of H x) (keys_of H x) v c → idle_of H x v c ⊎ Contains ranks (rank_of H v)
+  pub whole : (v : ℕ) (c : Cost) → IsSettled (costs_of H x) (keys_of H x) v c → idle_of H q v c ⊎ Contains ranks (rank_of H v)
 
 -- a node with the cost and the parent that a search knows of it
 abbrev pub IsKnownNode : LevelsAndLegs → Search → TreeNode → Type 0

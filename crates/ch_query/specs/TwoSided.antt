@@ -2,8 +2,7 @@
 use Rattle.std.specs.Prelude.{◌≡◌, ℕ, ◌≤◌, List, Option, Some}
 use Rattle.ch_graph.specs.declared.cost.Cost.{Cost}
 use Rattle.ch_graph.specs.Cost.{IsAtMost, IsBelow, cost_sum, cost_at}
-use Rattle.ch_hierarchy.specs.Hierarchy.{LevelsAndLegs}
-use Rattle.ch_query.specs.Search.{IsSettled, IsUpwardCost}
+use Rattle.ch_query.specs.Search.{IsSettled}
 
 -- a comes first: its cost is at most that of b, and at equal costs its node is at most that of b
 abbrev pub MeetsFirst : Cost × ℕ → Cost × ℕ → Type 0
@@ -14,11 +13,6 @@ abbrev pub IsSeen : (best_up queue_up best_down queue_down : List (Option Cost))
 IsSeen best_up queue_up best_down queue_down least =
     (v : ℕ) (a b : Cost) → IsSettled best_up queue_up v a → IsSettled best_down queue_down v b →
     (e : Cost × ℕ) × (least ≡ Some e) × MeetsFirst e (cost_sum a b, v)
-
--- the least sum is the sum of the costs of two paths
-abbrev pub IsFound : LevelsAndLegs → ℕ → ℕ → Option (Cost × ℕ) → Type 0
-IsFound H s t least =
-    (e : Cost × ℕ) → least ≡ Some e → (a b : Cost) × IsUpwardCost H.up s e.1 a × IsUpwardCost H.down t e.1 b × (cost_sum a b ≡ e.0)
 
 -- for each key of the second queue, the first queue has a key that is at most that
 abbrev pub LeadsKeys : List (Option Cost) → List (Option Cost) → Type 0

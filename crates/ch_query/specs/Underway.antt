@@ -3,10 +3,10 @@ use Rattle.std.specs.Prelude.{◌≡◌, ◌≢◌, ℕ, ◌<◌, ◌≤◌, Boo
 use Rattle.std.specs.Prelude.{Vec, vec_len, vec_capacity}
 use Rattle.std.specs.List.{count_by}
 use Rattle.std.specs.declared.alloc.Global.{Global}
-use Rattle.ch_graph.specs.declared.limits.TheConstants.{MOST_WEIGHT}
 use Rattle.ch_graph.specs.declared.cost.Cost.{Cost}
 use Rattle.ch_hierarchy.specs.declared.leg.Leg.{Leg}
 use Rattle.ch_hierarchy.specs.Hierarchy.{LevelsAndLegs, nodes_of, IsLevelled}
+use Rattle.ch_query.specs.declared.question.Question.{Question}
 use Rattle.ch_query.specs.declared.sides.search.Search.{Search}
 use Rattle.ch_hierarchy.specs.declared.ranked.RankedLeg.{RankedLeg}
 use Rattle.ch_hierarchy.specs.declared.side.Side.{Side}
@@ -29,13 +29,11 @@ pub record IsTouched (best : List (Option Cost)) (touched : Vec ℕ Global) : Ty
   pub listed : (v : ℕ) → is_some (cost_at best v) ≡ true → Contains touched.items v
   pub distinct : AllPairs ◌≢◌ touched.items
 
--- the lists have the same number of nodes, the touched nodes are those with a cost, and the most weight is within the
--- limits
+-- the lists have the same number of nodes, and the touched nodes are those with a cost
 pub record IsRoom (x : Search) : Type 0 where
   pub queue : length x.queue ≡ length x.labels.costs
   pub parents : length x.labels.parents ≡ length x.labels.costs
   pub touched : IsTouched x.labels.costs x.touched
-  pub most : x.most ≤ MOST_WEIGHT
 
 -- if the node of this rank is not reached, it has no key
 abbrev pub UnreachedIsUnkeyed : Search → ℕ → Type 0
@@ -49,32 +47,29 @@ IsSized n x = (length x.labels.costs ≡ n) × (length x.queue ≡ n) × (length
 abbrev pub count_unsettled_in : LevelsAndLegs → Search → ℕ
 count_unsettled_in H x = count_unsettled (costs_of H x) (keys_of H x)
 
--- both searches have the same direction, source and limit, and both stall or neither does
-pub record IsSameSearch (x y : Search) : Type 0 where
-  pub side : y.side ≡ x.side
-  pub source : y.source ≡ x.source
-  pub stalls : y.stalls ≡ x.stalls
-  pub most : y.most ≡ x.most
-
 -- v need not be expanded at this cost
-abbrev pub idle_of : LevelsAndLegs → Search → ℕ → Cost → Type 0
-idle_of H x v c = IsStalled (rows_of H x.side) (back_of H x.side x.stalls) x.source v c
+abbrev pub idle_of : LevelsAndLegs → Question → ℕ → Cost → Type 0
+idle_of H q v c = IsStalled (rows_of H q.side) (back_of H q.side q.stalls) q.source v c
 
--- a search in the state between one settled node and the next
-pub record IsUnderway (H : LevelsAndLegs) (x : Search) : Type 0 where
+-- a search for this question in the state between one settled node and the next
+pub record IsUnderway (H : LevelsAndLegs) (q : Question) (x : Search) : Type 0 where
   pub levelled : IsLevelled H
   pub sizes : IsSized (nodes_of H) x
-  pub search : IsSearch x.most (rows_of H x.side) x.source (idle_of H x) (costs_of H x) (keys_of H x)
-  pub parents : AreParents x.most (rows_of H x.side) x.source (idle_of H x) (costs_of H x) (keys_of H x) (parents_of H x)
+  pub search : IsSearch q.most (rows_of H q.side) q.source (idle_of H q) (costs_of H x) (keys_of H x)
+  pub parents : AreParents q.most (rows_of H q.side) q.source (idle_of H q) (costs_of H x) (keys_of H x) (parents_of H x)
   pub touched : IsTouched x.labels.costs x.touched
 
+-- the same for some question
+abbrev pub IsUnderwayBySome : LevelsAndLegs → Search → Type 0
+IsUnderwayBySome H x = (q : Question) × IsUnderway H q x
+
 -- a search that is taking the legs of v, which was settled last, at cost c
-pub record IsExpandingAt (H : LevelsAndLegs) (x : Search) (v : ℕ) (c : Cost) : Type 0 where
+pub record IsExpandingAt (H : LevelsAndLegs) (q : Question) (x : Search) (v : ℕ) (c : Cost) : Type 0 where
   pub levelled : IsLevelled H
   pub sizes : IsSized (nodes_of H) x
   pub within : v < nodes_of H
-  pub search : IsExpanding x.most (rows_of H x.side) x.source (OrNode (idle_of H x) v) (costs_of H x) (keys_of H x) v c
-  pub parents : AreParents x.most (rows_of H x.side) x.source (OrNode (idle_of H x) v) (costs_of H x) (keys_of H x) (parents_of H x)
+  pub search : IsExpanding q.most (rows_of H q.side) q.source (OrNode (idle_of H q) v) (costs_of H x) (keys_of H x) v c
+  pub parents : AreParents q.most (rows_of H q.side) q.source (OrNode (idle_of H q) v) (costs_of H x) (keys_of H x) (parents_of H x)
   pub touched : IsTouched x.labels.costs x.touched
 
 -- the leg as the lists by rank see it: its node is the rank
@@ -82,24 +77,23 @@ abbrev pub leg_of_ranked : RankedLeg → Leg
 leg_of_ranked r = record { node = r.rank; cost = record { weight = r.weight; arcs = r.arcs }; middle = None }
 
 -- the change of the lists by rank when a leg of v, settled at cost c, is taken
-abbrev pub RelaxesByRank : Search → ℕ → Cost → RankedLeg → Search → Type 0
-RelaxesByRank x v c r y =
-    Relaxes x.most x.labels.costs x.queue x.labels.parents v c (leg_of_ranked r) y.labels.costs y.queue y.labels.parents
+abbrev pub RelaxesByRank : ℕ → Search → ℕ → Cost → RankedLeg → Search → Type 0
+RelaxesByRank most x v c r y =
+    Relaxes most x.labels.costs x.queue x.labels.parents v c (leg_of_ranked r) y.labels.costs y.queue y.labels.parents
 
 -- the change of the lists by node when a leg of v, settled at cost c, is taken
-abbrev pub RelaxesIn : LevelsAndLegs → Search → ℕ → Cost → Leg → Search → Type 0
-RelaxesIn H x v c l y = Relaxes x.most (costs_of H x) (keys_of H x) (parents_of H x) v c l (costs_of H y) (keys_of H y) (parents_of H y)
+abbrev pub RelaxesIn : LevelsAndLegs → ℕ → Search → ℕ → Cost → Leg → Search → Type 0
+RelaxesIn H most x v c l y = Relaxes most (costs_of H x) (keys_of H x) (parents_of H x) v c l (costs_of H y) (keys_of H y) (parents_of H y)
 
 -- each node that is settled in y was settled in x, at the same cost
 abbrev pub KeepsSettled : LevelsAndLegs → Search → Search → Type 0
 KeepsSettled H x y = (v : ℕ) (c : Cost) → IsSettled (costs_of H y) (keys_of H y) v c → IsSettled (costs_of H x) (keys_of H x) v c
 
 -- y is the search x after these legs of v were taken
-pub record IsPartlyExpanded (H : LevelsAndLegs) (x y : Search) (v : ℕ) (c : Cost) (legs : List Leg) : Type 0 where
-  pub same : IsSameSearch x y
-  pub expanding : IsExpandingAt H y v c
+pub record IsPartlyExpanded (H : LevelsAndLegs) (q : Question) (x y : Search) (v : ℕ) (c : Cost) (legs : List Leg) : Type 0 where
+  pub expanding : IsExpandingAt H q y v c
   pub relaxed : (l : Leg) → Contains legs l →
-      IsRelaxedFrom y.most (costs_of H y) c l × IsNoEarlier y.most (costs_of H y) (parents_of H y) v c l
+      IsRelaxedFrom q.most (costs_of H y) c l × IsNoEarlier q.most (costs_of H y) (parents_of H y) v c l
   pub settled : KeepsSettled H x y
   pub measure : count_unsettled_in H y ≡ count_unsettled_in H x
 

@@ -26,6 +26,7 @@
 mod answer;
 mod checking;
 pub mod laws;
+mod question;
 mod routes;
 mod scratch;
 mod sides;

@@ -9,7 +9,6 @@ mod spreading;
 
 ghost use Rattle.std.specs.Prelude.{◌≡◌, IfOk};
 
-use ch_hierarchy::Side;
 pub use growing::{TreeNode, search_tree};
 use search::Search;
 pub use spreading::spread;
@@ -43,8 +42,8 @@ impl Sides {
     pub fn new(alloc: Global, nodes: u32) -> Result<Sides, AllocError>
         ensures { IfOk result (λ s. s ≡ nodes) }
     {
-        let up = Search::new(alloc, Side::Up, nodes)?;
-        let down = Search::new(alloc, Side::Down, nodes)?;
+        let up = Search::new(alloc, nodes)?;
+        let down = Search::new(alloc, nodes)?;
         Ok(Sides { up, down })
     }
 }

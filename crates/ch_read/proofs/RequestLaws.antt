@@ -5,7 +5,7 @@ use Rattle.std.specs.Prelude.{All, is_none}
 use Rattle.std.specs.List.{slice_split, onto_first}
 use Rattle.std.proofs.lemmas.List.{append_assoc}
 use Rattle.std.proofs.lemmas.List.Splits.{length-slice_split}
-use Rattle.ch_read.specs.declared.request.Request.{Request}
+use Rattle.ch_read.specs.declared.request.Asked.{Asked}
 use Rattle.ch_read.specs.declared.request_fault.RequestFault.{RequestFault}
 use Rattle.ch_read.specs.Words.{lines, words, without_empty_last}
 use Rattle.ch_read.specs.Requests.{Begun, Told, after_these, line_after, made, nothing, stopping, text_fault, told}
@@ -14,10 +14,10 @@ use Rattle.ch_read.proofs.Splits.{line_before}
 
 -- some lines and then more lines
 
-pub after_both : (xs ys : List Request) (t : Told) → after_these (xs ++ ys) t ≡ after_these xs (after_these ys t)
+pub after_both : (xs ys : List Asked) (t : Told) → after_these (xs ++ ys) t ≡ after_these xs (after_these ys t)
 after_both xs ys t = λ i. record { given = append_assoc xs ys t.given i; fault = t.fault }
 
-more_given : (n : ℕ) (xs : List Request) (w : Went) (more : List (List ℕ)) →
+more_given : (n : ℕ) (xs : List Asked) (w : Went) (more : List (List ℕ)) →
     after_these xs (and_then n w more) ≡ and_then n (went_on xs w) more
 more_given n xs w more = at (is_none w.told.fault) refl
   where
@@ -28,16 +28,16 @@ more_given n xs w more = at (is_none w.told.fault) refl
 pub told_append : (n line : ℕ) (begun : Begun) (xs ys : List (List ℕ)) → told n line begun (xs ++ ys) ≡ and_then n (went n line begun xs) ys
 told_append n line begun [] ys = refl
 told_append n line begun (text ∷ xs) ys = at (text_fault n (line_after line) begun text) refl
-    (told_append n (line_after line) (made n begun (words text)).begun xs ys)
+    (told_append n (line_after line) (made n (line_after line) begun (words text)).begun xs ys)
   where
     rest : Told
-    rest = told n (line_after line) (made n begun (words text)).begun (xs ++ ys)
+    rest = told n (line_after line) (made n (line_after line) begun (words text)).begun (xs ++ ys)
 
     left : Went
-    left = went n (line_after line) (made n begun (words text)).begun xs
+    left = went n (line_after line) (made n (line_after line) begun (words text)).begun xs
 
-    given : List Request
-    given = (made n begun (words text)).given
+    given : List Asked
+    given = (made n (line_after line) begun (words text)).given
 
     whole : Option RequestFault → Told
     whole o = if is_none o then after_these given rest else stopping o

@@ -46,7 +46,14 @@ pub places_read : (line : ℕ) (begun : Begun) (ws : List (List ℕ)) (values : 
     AreCapped (numbers_after [] 2 ws) values →
     get_or values 0 0 ≤ MOST_LISTED → get_or values 1 0 ≤ MOST_LISTED →
     PassesAs (failing_at line (places_checks begun (numbers_after [] 2 ws))) (numbers_after [] 2 ws) places_from
-    (record { purpose = ForPlaces (count_or_all (get_or values 1 0)); sources = 0; targets = get_or values 0 0; listed = [] })
+    (record {
+      purpose = ForPlaces (count_or_all (get_or values 1 0));
+      sources = 0;
+      targets = get_or values 0 0;
+      listed = [];
+      weights = 0;
+      weighed = [];
+    })
 places_read line begun ws values whole read few told =
     let ns = read.0 in
     let first : get_or values 0 0 ≡ capped_number (get_or ns 0 0) =

@@ -1,7 +1,7 @@
 -- The requests that a reader gives in turn, as its caller sees them.
 use Rattle.std.proofs.Common.{◌≡◌, ℕ, Bool, true, false, List, [], ◌∷◌, ◌++◌, Option, Some, None, refl, sym, ◌∙◌, ap, subst}
 use Rattle.std.proofs.lemmas.List.{append-nil, append_assoc}
-use Rattle.ch_read.specs.declared.request.Request.{Request}
+use Rattle.ch_read.specs.declared.request.Asked.{Asked}
 use Rattle.ch_read.specs.declared.request_fault.RequestFault.{RequestFault}
 use Rattle.ch_read.specs.Words.{lines}
 use Rattle.ch_read.specs.Requests.{Standing, after_these, stopping, told, told_by, ahead, starting, fed, MayCome, Gives, HasGiven}
@@ -21,43 +21,43 @@ pub starts_whole : (ended : Bool) (n : ℕ) → HasGiven ended n [] (starting n)
 starts_whole ended n more comes = refl
 
 -- the requests stay right after more bytes are fed
-pub feeds_whole : (n : ℕ) (bytes part : List ℕ) (s : Standing) (given : List Request) → HasGiven false n bytes s given →
+pub feeds_whole : (n : ℕ) (bytes part : List ℕ) (s : Standing) (given : List Asked) → HasGiven false n bytes s given →
     HasGiven false n (bytes ++ part) (fed s part) given
 feeds_whole n bytes part s given so_far more comes =
     ap (told_by n) (append_assoc bytes part more) ∙ so_far (part ++ more) (may_come (part ++ more))
     ∙ ap (λ (pending : List ℕ). after_these given (told s.nodes s.line s.begun (lines pending))) (sym (append_assoc s.pending part more))
 
 -- the requests stay right after more requests are given
-pub gives_more_whole : (ended : Bool) (n : ℕ) (bytes : List ℕ) (s new : Standing) (given more_given : List Request) →
+pub gives_more_whole : (ended : Bool) (n : ℕ) (bytes : List ℕ) (s new : Standing) (given more_given : List Asked) →
     HasGiven ended n bytes s given → Gives ended s new more_given →
     HasGiven ended n bytes new (given ++ more_given)
 gives_more_whole ended n bytes s new given more_given so_far gives more comes =
     so_far more comes ∙ ap (after_these given) (gives more comes) ∙ sym (after_both given more_given (ahead new more))
 
 -- the requests stay right when the input ends
-pub ends_whole : (n : ℕ) (bytes : List ℕ) (s : Standing) (given : List Request) → HasGiven false n bytes s given →
+pub ends_whole : (n : ℕ) (bytes : List ℕ) (s : Standing) (given : List Asked) → HasGiven false n bytes s given →
     HasGiven true n bytes s given
 ends_whole n bytes s given so_far more comes = so_far more (may_come more)
 
 -- at the end all requests were given
-pub used_up_whole : (n : ℕ) (bytes : List ℕ) (s : Standing) (given : List Request) → HasGiven true n bytes s given → IsUsedUp true s →
+pub used_up_whole : (n : ℕ) (bytes : List ℕ) (s : Standing) (given : List Asked) → HasGiven true n bytes s given → IsUsedUp true s →
     told_by n bytes ≡ record { given = given; fault = None }
 used_up_whole n bytes s given so_far none =
     ap (told_by n) (sym (append-nil bytes)) ∙ so_far [] (λ e. refl)
     ∙ ap (λ (pending : List ℕ). after_these given (told s.nodes s.line s.begun (lines (pending ++ [])))) none.0
     ∙ ap (λ (fault : Option RequestFault). after_these given (stopping fault)) none.1
-    ∙ ap (λ (all : List Request). record { given = all; fault = None }) (append-nil given)
+    ∙ ap (λ (all : List Asked). record { given = all; fault = None }) (append-nil given)
 
 -- at a fault all requests before it were given
-pub stopped_whole : (ended : Bool) (n : ℕ) (bytes : List ℕ) (s : Standing) (given : List Request) (fault : RequestFault) →
+pub stopped_whole : (ended : Bool) (n : ℕ) (bytes : List ℕ) (s : Standing) (given : List Asked) (fault : RequestFault) →
     HasGiven ended n bytes s given → IsStopped ended s fault →
     (more : List ℕ) → MayCome ended more → told_by n (bytes ++ more) ≡ record { given = given; fault = Some fault }
 stopped_whole ended n bytes s given fault so_far stops more comes =
     so_far more comes ∙ ap (after_these given) (stops more comes)
-    ∙ ap (λ (all : List Request). record { given = all; fault = Some fault }) (append-nil given)
+    ∙ ap (λ (all : List Asked). record { given = all; fault = Some fault }) (append-nil given)
 
 -- the requests stay right after all turns
-goes_whole : (n : ℕ) (turns : List Turn) (bytes : List ℕ) (given : List Request) (old new : Standing) →
+goes_whole : (n : ℕ) (turns : List Turn) (bytes : List ℕ) (given : List Asked) (old new : Standing) →
     HasGiven false n bytes old given → GoesBy turns old new →
     HasGiven false n (bytes ++ bytes_of turns) new (given ++ given_by turns)
 goes_whole n [] bytes given old new so_far same =

@@ -4,23 +4,25 @@ use Rattle.std.proofs.Common.{[], ◌∷◌, ◌++◌, length, take, drop, Optio
 use Rattle.std.proofs.Common.{length-drop}
 use Rattle.std.specs.Prelude.{IfErr, IsErrAnd, Result, Ok, Err, is_none}
 use Rattle.std.specs.List.{position, position_or_len}
+use Rattle.std.proofs.lemmas.Bool.{and_parts}
 use Rattle.std.proofs.lemmas.Bool.Decides.{nat_tests}
 use Rattle.std.proofs.lemmas.Option.{cond_some}
 use Rattle.std.proofs.lemmas.List.{get_or_append_left, append-nil, append_assoc, length_push, length-append, take_rest}
 use Rattle.std.proofs.lemmas.List.{take-append-le, drop-append-le, drop_all}
 use Rattle.std.proofs.lemmas.List.Elements.{All-append, All-take, All-drop}
 use Rattle.ch_read.specs.declared.begun.Purpose.{Purpose}
-use Rattle.ch_read.specs.declared.begun.Purpose.TheVariants.{Table as ForTable, Places as ForPlaces}
+use Rattle.ch_read.specs.declared.begun.Purpose.TheVariants.{Table as ForTable, Places as ForPlaces, Weights as ForWeights}
 use Rattle.ch_read.specs.declared.request.TheConstants.{MOST_LINE}
-use Rattle.ch_read.specs.declared.request.Request.{Request}
+use Rattle.ch_read.specs.declared.request.Asked.{Asked}
+use Rattle.ch_read.specs.declared.new_weights.NewWeight.{NewWeight}
 use Rattle.ch_read.specs.declared.fault.FaultKind.TheVariants.{BadLine}
 use Rattle.ch_read.specs.declared.request_fault.RequestFault.{RequestFault}
 use Rattle.ch_read.specs.declared.request_fault.RequestError.{RequestError}
 use Rattle.ch_read.specs.declared.request_fault.RequestError.TheVariants.{Fault, NoMemory}
 use Rattle.ch_read.specs.Words.{lines, words}
-use Rattle.ch_read.specs.Requests.{Begun, Made, Told, Standing, wanted, is_whole, nothing, settled, with_node, request_for}
-use Rattle.ch_read.specs.Requests.{request_of, none_made, at_most_one, made, told, ahead, after_these, stopping, line_after}
-use Rattle.ch_read.specs.Requests.{text_fault, Gives, IsErrorAhead, IsGiven, IsRequest, IsStopped, AreTwoLists}
+use Rattle.ch_read.specs.Requests.{Begun, Made, Told, Standing, wanted, is_whole, nothing, settled, with_node, asked_by}
+use Rattle.ch_read.specs.Requests.{asked_of, none_made, at_most_one, made, told, ahead, after_these, stopping, line_after}
+use Rattle.ch_read.specs.Requests.{text_fault, Gives, IsErrorAhead, IsAsked, IsGiven, IsNewWeight, IsStopped, AreTwoLists, with_weight}
 use Rattle.ch_read.specs.RequestSteps.{HasNoLine, IsBegun, IsOf, IsLineAhead, IsLineError, Makes, advanced}
 use Rattle.std.proofs.lemmas.List.Sums.{fails_before_first}
 use Rattle.ch_read.proofs.Splits.{line_to_feed, line_to_end, none_passes, split_at}
@@ -35,6 +37,23 @@ node_added n begun node is below room = record {
   sizes = is.sizes;
   cells = is.cells;
   purpose = is.purpose;
+  weighed = is.weighed;
+  few_weights = is.few_weights;
+  most_weights = is.most_weights;
+}
+
+-- new weights that want more stay within their limit after one more
+pub weight_added : (n : ℕ) (begun : Begun) (weight : NewWeight) → IsBegun n begun → IsNewWeight n weight →
+    length begun.weighed < begun.weights → IsBegun n (with_weight begun weight)
+weight_added n begun weight is new room = record {
+  listed = is.listed;
+  few = is.few;
+  sizes = is.sizes;
+  cells = is.cells;
+  purpose = is.purpose;
+  weighed = All-append (IsNewWeight n) begun.weighed (weight ∷ []) is.weighed (one (IsNewWeight n) weight new);
+  few_weights = omega (arith, length_push begun.weighed weight);
+  most_weights = is.most_weights;
 }
 
 nothing_begun : (n : ℕ) → IsBegun n nothing
@@ -44,6 +63,9 @@ nothing_begun n = record {
   sizes = (omega arith, omega arith);
   cells = omega arith;
   purpose = tt;
+  weighed = λ k d lt. absurd (omega arith);
+  few_weights = omega arith;
+  most_weights = omega arith;
 }
 
 whole_lists : (n : ℕ) (begun : Begun) → IsBegun n begun → wanted begun ≤ length begun.listed → (within : Option ℕ) →
@@ -59,41 +81,45 @@ whole_lists n begun is whole within =
       cells = rw (sources, targets) is.cells;
     }
 
--- a whole request is one on the graph
-whole_request : (n : ℕ) (begun : Begun) → IsBegun n begun → wanted begun ≤ length begun.listed → IsRequest n (request_of begun)
-whole_request n begun is whole = at begun.purpose is.purpose
+-- a whole request is one on the graph, and so are new weights
+whole_asked : (n : ℕ) (begun : Begun) → IsBegun n begun → wanted begun ≤ length begun.listed → IsAsked n (asked_of begun)
+whole_asked n begun is whole = at begun.purpose is.purpose
   where
-    at : (purpose : Purpose) → IsOf purpose begun.sources → IsRequest n (request_for purpose begun.sources begun.listed)
+    at : (purpose : Purpose) → IsOf purpose begun.sources →
+        IsAsked n (asked_by purpose begun.sources begun.listed begun.weighed)
     at (ForTable within) of = whole_lists n begun is whole within
     at (ForPlaces count) of = let few = is.few in let size = is.sizes.1 in record { each = is.listed; size = omega arith }
+    at (ForWeights line) of =
+        let few = is.few_weights in let most = is.most_weights in record { each = is.weighed; size = omega arith }
 
 -- after a line, the request is given with its lists if it is whole, and otherwise it wants more nodes
-pub settled_within : (n : ℕ) (begun new : Begun) (given : Option Request) → IsBegun n begun →
+pub settled_within : (n : ℕ) (begun new : Begun) (given : Option Asked) → IsBegun n begun →
     settled begun ≡ record { given = at_most_one given; begun = new } → IsGiven n given × IsBegun n new
 settled_within n begun new given is e = at (is_whole begun) refl (sym e)
   where
     at : (t : Bool) → is_whole begun ≡ t → record { given = at_most_one given; begun = new } ≡ settled begun →
         IsGiven n given × IsBegun n new
     at true whole made_is =
+        let first = (and_parts (leb (wanted begun) (length begun.listed)) (leb begun.weights (length begun.weighed)) whole).0 in
         let long : wanted begun ≤ length begun.listed = grind (arith, nat_tests) in
-        let same : record { given = at_most_one given; begun = new } ≡ record { given = request_of begun ∷ []; begun = nothing } =
+        let same : record { given = at_most_one given; begun = new } ≡ record { given = asked_of begun ∷ []; begun = nothing } =
         rw whole at made_is in (
           given_is given (ap (λ (m : Made). m.given) same) long,
           subst (IsBegun n) (sym (ap (λ (m : Made). m.begun) same)) (nothing_begun n),
         )
       where
-        given_is : (o : Option Request) → at_most_one o ≡ request_of begun ∷ [] → wanted begun ≤ length begun.listed → IsGiven n o
+        given_is : (o : Option Asked) → at_most_one o ≡ asked_of begun ∷ [] → wanted begun ≤ length begun.listed → IsGiven n o
         given_is None f long = absurd (omega (arith, ap length f))
         given_is (Some r) f long =
-            subst (IsRequest n) (sym (ap (λ (rs : List Request). Rattle.std.specs.Prelude.slice_index_or rs 0 r) f))
-            (whole_request n begun is long)
+            subst (IsAsked n) (sym (ap (λ (rs : List Asked). Rattle.std.specs.Prelude.slice_index_or rs 0 r) f))
+            (whole_asked n begun is long)
     at false short made_is =
         let same : record { given = at_most_one given; begun = new } ≡ none_made begun = rw short at made_is in (
           given_none given (ap (λ (m : Made). m.given) same),
           subst (IsBegun n) (sym (ap (λ (m : Made). m.begun) same)) is,
         )
       where
-        given_none : (o : Option Request) → at_most_one o ≡ [] → IsGiven n o
+        given_none : (o : Option Asked) → at_most_one o ≡ [] → IsGiven n o
         given_none None f = tt
         given_none (Some r) f = absurd (omega (arith, ap length f))
 
@@ -148,10 +174,10 @@ last_ahead xs more e some none =
 module _ (n line : ℕ) (begun : Begun) (text : List ℕ) (more : List (List ℕ)) where
   abbrev after_line : Option RequestFault → Told
   after_line fault =
-      if is_none fault then after_these (made n begun (words text)).given
-      (told n (line_after line) (made n begun (words text)).begun more) else stopping fault
+      if is_none fault then after_these (made n (line_after line) begun (words text)).given
+      (told n (line_after line) (made n (line_after line) begun (words text)).begun more) else stopping fault
 
-  pub line_made : (new : Begun) (given : Option Request) → Makes n (line_after line) begun new text given →
+  pub line_made : (new : Begun) (given : Option Asked) → Makes n (line_after line) begun new text given →
       told n line begun (text ∷ more) ≡ after_these (at_most_one given) (told n (line_after line) new more)
   line_made new given makes = ap after_line makes.0 ∙ ap (λ (m : Made). after_these m.given (told n (line_after line) m.begun more)) makes.1
 
@@ -160,7 +186,7 @@ module _ (n line : ℕ) (begun : Begun) (text : List ℕ) (more : List (List ℕ
   line_faulty fault e = ap after_line e
 
 -- the requests that were given and those that are given next
-pub gives_more : (ended : Bool) (a b c : Standing) (xs ys : List Request) → Gives ended a b xs → Gives ended b c ys →
+pub gives_more : (ended : Bool) (a b c : Standing) (xs ys : List Asked) → Gives ended a b xs → Gives ended b c ys →
     Gives ended a c (xs ++ ys)
 gives_more ended a b c xs ys first next more comes =
     first more comes ∙ ap (after_these xs) (next more comes)
@@ -204,7 +230,7 @@ begins_long xs more none some = at (position (λ b. eqb b 10) (xs ++ more)) refl
 
 -- the requests and the fault that are ahead, if the next line has no fault and if it has one
 module _ (ended : Bool) (s : Standing) (text : List ℕ) (taken : ℕ) (is : IsLineAhead ended s.pending text taken) where
-  pub step_given : (new : Begun) (given : Option Request) → Makes s.nodes (line_after s.line) s.begun new text given →
+  pub step_given : (new : Begun) (given : Option Asked) → Makes s.nodes (line_after s.line) s.begun new text given →
       Gives ended s (advanced s new taken) (at_most_one given)
   step_given new given makes more comes =
       ap (told s.nodes s.line s.begun) (is.0 more comes)

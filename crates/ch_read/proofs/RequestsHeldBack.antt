@@ -11,15 +11,15 @@ use Rattle.std.proofs.lemmas.List.{append-nil, append_assoc}
 use Rattle.std.proofs.lemmas.List.Elements.{All-append, filter-append}
 use Rattle.std.proofs.lemmas.List.Splits.{slice_split_at}
 use Rattle.std.proofs.lemmas.List.Sums.{fails_before_first}
-use Rattle.ch_read.specs.declared.request.Request.{Request}
+use Rattle.ch_read.specs.declared.request.Asked.{Asked}
 use Rattle.ch_read.specs.declared.request_fault.RequestFault.{RequestFault}
-use Rattle.ch_read.specs.declared.form.Form.TheVariants.{Queries, Nodes}
+use Rattle.ch_read.specs.declared.form.Form.TheVariants.{Graph, Queries, Nodes}
 use Rattle.ch_read.specs.declared.form.Part.TheVariants.{First}
 use Rattle.ch_read.specs.Words.{lines, words, number, is_word, is_blank, without_empty_last}
 use Rattle.ch_read.specs.Forms.{numbers, numbers_after, item}
 use Rattle.ch_read.specs.Checks.{is_skipped, begins_with}
 use Rattle.ch_read.specs.Requests.{Begun, Made, Told, after_these, line_after, made, near_numbers, none_made, numbers_and_limit}
-use Rattle.ch_read.specs.Requests.{places_numbers, route_numbers, stopping, table_numbers, text_fault, told}
+use Rattle.ch_read.specs.Requests.{places_numbers, route_numbers, stopping, table_numbers, text_fault, told, weights_numbers}
 use Rattle.ch_read.specs.RequestLaws.{Went, bytes_of, given_by, went_by, and_then, unended, AreNotHeldBack}
 use Rattle.ch_read.proofs.Splits.{none_passes}
 use Rattle.ch_read.proofs.RequestLaws.{told_by_parts, unended_clear}
@@ -100,31 +100,36 @@ x_no_limited letter count front word = let next : suc count + 1 ≡ suc (suc cou
     rw (x_no_item letter count front word, next) (x_no_item letter (suc count) front word)
 
 -- a line without numbers completes no request
-module _ (n : ℕ) (begun : Begun) (ws : List (List ℕ)) where
+module _ (n line : ℕ) (begun : Begun) (ws : List (List ℕ)) where
   made_nothing : item (Queries n) First ws ≡ None → route_numbers ws ≡ None → near_numbers ws ≡ None → table_numbers ws ≡ None →
-      places_numbers ws ≡ None → item (Nodes n) First ws ≡ None →
-      (made n begun ws).given ≡ []
-  made_nothing query route near table places listed =
-      rw (query, route, near, table, places, listed) (at (is_skipped ws) (begins_with ws (codes "q")) (begins_with ws (codes "r"))
-      (begins_with ws (codes "n")) (begins_with ws (codes "t")) (begins_with ws (codes "p")))
+      places_numbers ws ≡ None → weights_numbers ws ≡ None → item Graph First ws ≡ None → item (Nodes n) First ws ≡ None →
+      (made n line begun ws).given ≡ []
+  made_nothing query route near table places weights weighed listed =
+      rw (query, route, near, table, places, weights, weighed, listed) (at (is_skipped ws) (begins_with ws (codes "q"))
+      (begins_with ws (codes "r")) (begins_with ws (codes "n")) (begins_with ws (codes "w")) (begins_with ws (codes "a"))
+      (begins_with ws (codes "t")) (begins_with ws (codes "p")))
     where
-      at : (t u v w x y : Bool) →
+      at : (t u v w x y z a : Bool) →
           (if t then none_made begun else if u then none_made begun else if v then none_made begun else if w then none_made begun
-          else if x then none_made begun else if y then none_made begun else none_made begun).given ≡ []
-      at true u v w x y = refl
-      at false true v w x y = refl
-      at false false true w x y = refl
-      at false false false true x y = refl
-      at false false false false true y = refl
-      at false false false false false true = refl
-      at false false false false false false = refl
+          else if x then none_made begun else if y then none_made begun else if z then none_made begun
+          else if a then none_made begun else none_made begun).given ≡ []
+      at true u v w x y z a = refl
+      at false true v w x y z a = refl
+      at false false true w x y z a = refl
+      at false false false true x y z a = refl
+      at false false false false true y z a = refl
+      at false false false false false true z a = refl
+      at false false false false false false true a = refl
+      at false false false false false false false true = refl
+      at false false false false false false false false = refl
 
-x_made_nothing : (n : ℕ) (begun : Begun) (bytes : List ℕ) → (made n begun (words (bytes ++ 120 ∷ []))).given ≡ []
-x_made_nothing n begun bytes =
+x_made_nothing : (n line : ℕ) (begun : Begun) (bytes : List ℕ) → (made n line begun (words (bytes ++ 120 ∷ []))).given ≡ []
+x_made_nothing n line begun bytes =
     let ws = words_x bytes in
-    rw (ws.2) (made_nothing n begun (ws.0 ++ (ws.1 ++ 120 ∷ []) ∷ []) (x_no_item (codes "q") 1 ws.0 ws.1)
+    rw (ws.2) (made_nothing n line begun (ws.0 ++ (ws.1 ++ 120 ∷ []) ∷ []) (x_no_item (codes "q") 1 ws.0 ws.1)
     (x_no_item (codes "r") 1 ws.0 ws.1) (x_no_limited (codes "n") 0 ws.0 ws.1) (x_no_limited (codes "t") 1 ws.0 ws.1)
-    (x_no_item (codes "p") 1 ws.0 ws.1) (x_no_item (codes "s") 0 ws.0 ws.1))
+    (x_no_item (codes "p") 1 ws.0 ws.1) (x_no_item (codes "w") 0 ws.0 ws.1) (x_no_item (codes "a") 2 ws.0 ws.1)
+    (x_no_item (codes "s") 0 ws.0 ws.1))
 
 -- these bytes end the line with an x, and the line after it is unknown
 abbrev x_lines : List ℕ
@@ -147,14 +152,14 @@ x_told_nothing n line begun bytes clear =
     ∙ at (text_fault n (line_after line) begun (bytes ++ 120 ∷ [])) refl
   where
     here : Made
-    here = made n begun (words (bytes ++ 120 ∷ []))
+    here = made n (line_after line) begun (words (bytes ++ 120 ∷ []))
 
     after : Option RequestFault → Told
     after o = if is_none o then after_these here.given (told n (line_after line) here.begun ((120 ∷ []) ∷ [])) else stopping o
 
     at : (o : Option RequestFault) → text_fault n (line_after line) begun (bytes ++ 120 ∷ []) ≡ o →
         (after (text_fault n (line_after line) begun (bytes ++ 120 ∷ []))).given ≡ []
-    at None e = ap (λ o. (after o).given) e ∙ append-nil here.given ∙ x_made_nothing n begun bytes
+    at None e = ap (λ o. (after o).given) e ∙ append-nil here.given ∙ x_made_nothing n (line_after line) begun bytes
     at (Some fault) e = ap (λ o. (after o).given) e
 
 one_line : (bytes : List ℕ) → position (λ b. eqb b 10) bytes ≡ None → IsOneLine bytes
@@ -162,7 +167,7 @@ one_line bytes e = let past = none_passes (λ b. eqb b 10) bytes e in λ k d lt.
 
 pub not_held_back : AreNotHeldBack
 not_held_back n turns s goes none =
-    sym (append-nil (given_by turns)) ∙ ap (λ (all : List Request). given_by turns ++ all)
+    sym (append-nil (given_by turns)) ∙ ap (λ (all : List Asked). given_by turns ++ all)
     (sym (x_told_nothing s.nodes s.line s.begun s.pending (one_line s.pending none.0)))
     ∙ ap (λ (t : Told). t.given) (sym (given_in_turn n turns s goes x_lines (may_come x_lines))
     ∙ told_by_parts n (bytes_of turns) x_lines) ∙ ended (is_none (went_by n (bytes_of turns)).told.fault) refl
@@ -172,6 +177,6 @@ not_held_back n turns s goes none =
 
     ended : (t : Bool) → is_none w.told.fault ≡ t → (and_then n w (lines (unended (bytes_of turns) ++ x_lines))).given ≡ w.told.given
     ended true e =
-        rw e (ap (λ (all : List Request). w.told.given ++ all)
+        rw e (ap (λ (all : List Asked). w.told.given ++ all)
         (x_told_nothing n w.line w.begun (unended (bytes_of turns)) (unended_clear (bytes_of turns))) ∙ append-nil w.told.given)
     ended false e = rw e refl

@@ -1,7 +1,7 @@
 -- The requests of a stream that comes in parts, and of a reader that is fed and asked in turn.
 use Rattle.std.specs.Prelude.{◌≡◌, ℕ, ◌==◌, Bool, false, true, if◌then◌else◌, List, [], ◌∷◌, ◌++◌, Some, None, is_none}
 use Rattle.std.specs.List.{slice_split, flat_map}
-use Rattle.ch_read.specs.declared.request.Request.{Request}
+use Rattle.ch_read.specs.declared.request.Asked.{Asked}
 use Rattle.ch_read.specs.declared.request_fault.RequestFault.{RequestFault}
 use Rattle.ch_read.specs.Words.{lines, words}
 use Rattle.ch_read.specs.Requests.{Begun, Told, Standing, after_these, line_after, made, nothing, stopping, text_fault, told}
@@ -13,14 +13,15 @@ pub record Went : Type 0 where
   pub line : ℕ
   pub begun : Begun
 
-abbrev pub went_on : List Request → Went → Went
+abbrev pub went_on : List Asked → Went → Went
 went_on given w = record { told = after_these given w.told; line = w.line; begun = w.begun }
 
 abbrev pub went : ℕ → ℕ → Begun → List (List ℕ) → Went
 went n line begun [] = record { told = stopping None; line = line; begun = begun }
 went n line begun (text ∷ more) =
     if is_none (text_fault n (line_after line) begun text)
-    then went_on (made n begun (words text)).given (went n (line_after line) (made n begun (words text)).begun more)
+    then went_on (made n (line_after line) begun (words text)).given
+    (went n (line_after line) (made n (line_after line) begun (words text)).begun more)
     else record { told = stopping (text_fault n (line_after line) begun text); line = line; begun = begun }
 
 -- the requests and the fault after more lines; after a fault there are no more
@@ -56,12 +57,12 @@ AreToldByParts =
 
 -- a turn: a reader is fed these bytes, and then gives these requests; either may be none
 abbrev pub Turn : Type 0
-Turn = List ℕ × List Request
+Turn = List ℕ × List Asked
 
 abbrev pub bytes_of : List Turn → List ℕ
 bytes_of turns = flat_map (λ turn. turn.0) turns
 
-abbrev pub given_by : List Turn → List Request
+abbrev pub given_by : List Turn → List Asked
 given_by turns = flat_map (λ turn. turn.1) turns
 
 -- these turns take a reader from one state to another
@@ -78,7 +79,7 @@ AreGivenInTurn =
 -- when the input has ended and all is used up, the reader has given all requests of the bytes, and they have no fault
 abbrev pub AreGivenToTheEnd : Type 0
 AreGivenToTheEnd =
-    (n : ℕ) (turns : List Turn) (s : Standing) → GoesBy turns (starting n) s → (new : Standing) (last : List Request) →
+    (n : ℕ) (turns : List Turn) (s : Standing) → GoesBy turns (starting n) s → (new : Standing) (last : List Asked) →
     Gives true s new last → IsUsedUp true new →
     told_by n (bytes_of turns) ≡ record { given = given_by turns ++ last; fault = None }
 
@@ -87,7 +88,7 @@ AreGivenToTheEnd =
 abbrev pub AreGivenToTheFault : Type 0
 AreGivenToTheFault =
     (n : ℕ) (turns : List Turn) (s : Standing) → GoesBy turns (starting n) s → (ended : Bool) (new : Standing)
-    (last : List Request) → Gives ended s new last → (fault : RequestFault) → IsStopped ended new fault →
+    (last : List Asked) → Gives ended s new last → (fault : RequestFault) → IsStopped ended new fault →
     (more : List ℕ) → MayCome ended more →
     told_by n (bytes_of turns ++ more) ≡ record { given = given_by turns ++ last; fault = Some fault }
 

@@ -4,8 +4,9 @@ use Rattle.std.specs.Prelude.{Option, Some, None, option_map, position, ◌==◌
 use Rattle.ch_graph.specs.declared.limits.TheConstants.{MOST_LISTED}
 use Rattle.ch_work.specs.declared.limits.TheConstants.{MOST_CELLS}
 use Rattle.ch_read.specs.declared.begun.Purpose.{Purpose}
-use Rattle.ch_read.specs.declared.begun.Purpose.TheVariants.{Table as ForTable, Places as ForPlaces}
-use Rattle.ch_read.specs.declared.request.Request.{Request}
+use Rattle.ch_read.specs.declared.begun.Purpose.TheVariants.{Table as ForTable, Places as ForPlaces, Weights as ForWeights}
+use Rattle.ch_read.specs.declared.new_weights.TheConstants.{MOST_NEW_WEIGHTS}
+use Rattle.ch_read.specs.declared.request.Asked.{Asked}
 use Rattle.ch_read.specs.declared.request_line.Limited.{Limited}
 use Rattle.ch_read.specs.declared.request_fault.RequestFault.{RequestFault}
 use Rattle.ch_read.specs.declared.request_fault.RequestError.{RequestError}
@@ -14,21 +15,26 @@ use Rattle.ch_read.specs.declared.request_reader.Step.{Step}
 use Rattle.ch_read.specs.declared.request_reader.Step.TheVariants.{Quiet, Given, UsedUp}
 use Rattle.ch_read.specs.Words.{lines, words}
 use Rattle.ch_read.specs.Reading.{capped_number}
-use Rattle.ch_read.specs.Requests.{Begun, Standing, wanted, made, at_most_one, text_fault, line_after, MayCome, Gives, IsUsedUp, IsRequest}
+use Rattle.ch_read.specs.Requests.{Begun, Standing, wanted, made, at_most_one, text_fault, line_after, MayCome, Gives, IsUsedUp}
+use Rattle.ch_read.specs.Requests.{IsAsked, IsNewWeight}
 
 -- lists of places have no sources
 abbrev pub IsOf : Purpose → ℕ → Type 0
 IsOf (ForTable within) sources = ⊤
 IsOf (ForPlaces count) sources = sources ≡ 0
+IsOf (ForWeights line) sources = ⊤
 
--- a request that is begun on a graph of n nodes: it has at most as many nodes as it wants, and its lists are within the
--- limits
+-- a request that is begun on a graph of n nodes: it has at most as many nodes and new weights as it wants, and its lists are
+-- within the limits
 pub record IsBegun (n : ℕ) (begun : Begun) : Type 0 where
   pub listed : All (λ v. v < n) begun.listed
   pub few : length begun.listed ≤ wanted begun
   pub sizes : (begun.sources ≤ MOST_LISTED) × (begun.targets ≤ MOST_LISTED)
   pub cells : begun.sources * begun.targets ≤ MOST_CELLS
   pub purpose : IsOf begun.purpose begun.sources
+  pub weighed : All (IsNewWeight n) begun.weighed
+  pub few_weights : length begun.weighed ≤ begun.weights
+  pub most_weights : begun.weights ≤ MOST_NEW_WEIGHTS
 
 -- the first two of the numbers, and the number at this place as a limit, if there is one; each is capped
 abbrev pub IsLimited : ℕ → Option (List ℕ) → Limited → Type 0
@@ -46,9 +52,9 @@ abbrev pub FailsAs : Option RequestFault → RequestFault → Type 0
 FailsAs fault is = fault ≡ Some is
 
 -- the line has no fault, and completes this request or none
-abbrev pub Makes : ℕ → ℕ → Begun → Begun → List ℕ → Option Request → Type 0
+abbrev pub Makes : ℕ → ℕ → Begun → Begun → List ℕ → Option Asked → Type 0
 Makes n line old new text given =
-    (text_fault n line old text ≡ None) × (made n old (words text) ≡ record { given = at_most_one given; begun = new })
+    (text_fault n line old text ≡ None) × (made n line old (words text) ≡ record { given = at_most_one given; begun = new })
 
 -- the error is this fault, or a lack of memory
 abbrev pub IsLineError : Option RequestFault → RequestError → Type 0
@@ -72,10 +78,10 @@ advanced s begun taken = record { nodes = s.nodes; line = line_after s.line; beg
 -- the result of one line: it completed no request, or this one; or there was no whole line
 abbrev pub IsStep : Bool → Standing → Standing → Step → Type 0
 IsStep ended old new Quiet = Gives ended old new [] × (length new.pending < length old.pending)
-IsStep ended old new (Given r) = Gives ended old new (r ∷ [])
+IsStep ended old new (Given asked) = Gives ended old new (asked ∷ [])
 IsStep ended old new UsedUp = (new ≡ old) × IsUsedUp ended old
 
 abbrev pub IsGivenBy : ℕ → Step → Type 0
 IsGivenBy n Quiet = ⊤
-IsGivenBy n (Given r) = IsRequest n r
+IsGivenBy n (Given asked) = IsAsked n asked
 IsGivenBy n UsedUp = ⊤

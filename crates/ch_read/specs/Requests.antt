@@ -1,25 +1,29 @@
--- The requests of a stream: queries, tables with their lists, places and near rows. Each is given as soon as it is
--- whole.
-use Rattle.std.specs.Prelude.{◌≡◌, ℕ, ◌+◌, ◌*◌, ◌<◌, ◌≤◌, nat_le, Bool, true, false, ◌&&◌, if◌then◌else◌, List, [], ◌∷◌, ◌++◌}
+-- The requests of a stream: queries, tables with their lists, places and near rows, and the new weights between them.
+-- Each is given as soon as it is whole.
+use Rattle.std.specs.Prelude.{◌≡◌, ℕ, ◌+◌, ◌*◌, ◌-◌, ◌<◌, ◌≤◌, nat_le, Bool, true, false, ◌&&◌, if◌then◌else◌, List, [], ◌∷◌, ◌++◌}
 use Rattle.std.specs.Prelude.{length, take, drop, slice_index, slice_get, ◌==◌, Option, Some, None, is_some, is_none, option_map}
 use Rattle.std.specs.Prelude.{codes, All, position, ⊤}
 use Rattle.std.specs.Option.{option_map_or, option_or}
 use Rattle.ch_graph.specs.declared.limits.TheConstants.{MOST_LISTED, MOST_WEIGHT}
 use Rattle.ch_work.specs.declared.limits.TheConstants.{MOST_CELLS}
 use Rattle.ch_read.specs.declared.fault.FaultKind.TheVariants.{UnknownLine, BadLine, NodeRange, Sum, Size, TooFew}
-use Rattle.ch_read.specs.declared.form.Form.TheVariants.{Queries, Nodes}
+use Rattle.ch_read.specs.declared.form.Form.TheVariants.{Graph, Queries, Nodes}
 use Rattle.ch_read.specs.declared.form.Part.TheVariants.{First}
 use Rattle.ch_read.specs.declared.form.Heading.{Heading}
 use Rattle.ch_read.specs.declared.begun.Purpose.{Purpose}
-use Rattle.ch_read.specs.declared.begun.Purpose.TheVariants.{Table as ForTable, Places as ForPlaces}
+use Rattle.ch_read.specs.declared.begun.Purpose.TheVariants.{Table as ForTable, Places as ForPlaces, Weights as ForWeights}
+use Rattle.ch_read.specs.declared.new_weights.TheConstants.{MOST_NEW_WEIGHTS}
+use Rattle.ch_read.specs.declared.new_weights.NewWeight.{NewWeight}
 use Rattle.ch_read.specs.declared.request.TheConstants.{MOST_LINE}
+use Rattle.ch_read.specs.declared.request.Asked.{Asked}
+use Rattle.ch_read.specs.declared.request.Asked.TheVariants.{Request as Asks, Weights}
 use Rattle.ch_read.specs.declared.request.Request.{Request}
 use Rattle.ch_read.specs.declared.request.Request.TheVariants.{Query, Route, Table, Places, Near}
 use Rattle.ch_read.specs.declared.request_fault.RequestFault.{RequestFault}
 use Rattle.ch_read.specs.declared.request_fault.RequestFault.TheVariants.{Line, Cells}
 use Rattle.ch_read.specs.declared.request_fault.RequestError.{RequestError}
 use Rattle.ch_read.specs.declared.request_fault.RequestError.TheVariants.{Fault, NoMemory}
-use Rattle.ch_read.specs.RequestLists.{TwoLists, PlaceList}
+use Rattle.ch_read.specs.RequestLists.{TwoLists, PlaceList, WeightList}
 use Rattle.ch_read.specs.Words.{words, lines}
 use Rattle.ch_read.specs.Forms.{numbers_after, item}
 use Rattle.ch_read.specs.Checks.{Check, passes, is_node, is_skipped, begins_with, item_checks, first_failing}
@@ -27,24 +31,26 @@ use Rattle.ch_read.specs.Names.{pair_from, node_from}
 use Rattle.ch_read.specs.Reading.{capped_number}
 
 -- a request whose lists are being read: their purpose, the numbers of sources and targets, and the nodes listed so far,
--- sources first; places are targets without sources
+-- sources first; places are targets without sources. Or new weights: their number, and those listed so far
 pub record Begun : Type 0 where
   pub purpose : Purpose
   pub sources : ℕ
   pub targets : ℕ
   pub listed : List ℕ
+  pub weights : ℕ
+  pub weighed : List NewWeight
 
 -- no request is begun
 abbrev pub nothing : Begun
-nothing = record { purpose = ForTable None; sources = 0; targets = 0; listed = [] }
+nothing = record { purpose = ForTable None; sources = 0; targets = 0; listed = []; weights = 0; weighed = [] }
 
 -- the number of nodes in its lists
 abbrev pub wanted : Begun → ℕ
 wanted begun = begun.sources + begun.targets
 
--- the lists have all their nodes
+-- the lists have all their nodes, or all their new weights
 abbrev pub is_whole : Begun → Bool
-is_whole begun = nat_le (wanted begun) (length begun.listed)
+is_whole begun = nat_le (wanted begun) (length begun.listed) && nat_le begun.weights (length begun.weighed)
 
 -- the numbers of a line of exactly these words and `count` numbers, and then possibly a limit
 abbrev pub numbers_and_limit : List (List ℕ) → ℕ → List (List ℕ) → Option (List ℕ)
@@ -61,6 +67,10 @@ table_numbers ws = numbers_and_limit (codes "t" ∷ []) 2 ws
 -- the numbers of a line `p L K`
 abbrev pub places_numbers : List (List ℕ) → Option (List ℕ)
 places_numbers ws = numbers_after (codes "p" ∷ []) 2 ws
+
+-- the numbers of a line `w K`
+abbrev pub weights_numbers : List (List ℕ) → Option (List ℕ)
+weights_numbers ws = numbers_after (codes "w" ∷ []) 1 ws
 
 -- the numbers of a line `n S` or `n S R`
 abbrev pub near_numbers : List (List ℕ) → Option (List ℕ)
@@ -96,6 +106,11 @@ table_checks begun numbers =
 abbrev pub places_checks : Begun → Option (List ℕ) → List Check
 places_checks begun numbers = (is_whole begun, TooFew) ∷ (is_some numbers, BadLine) ∷ (passes are_listable numbers, Size) ∷ []
 
+abbrev pub weights_checks : Begun → Option (List ℕ) → List Check
+weights_checks begun numbers =
+    (is_whole begun, TooFew) ∷ (is_some numbers, BadLine)
+    ∷ (passes (λ ns. nat_le (slice_index ns 0) MOST_NEW_WEIGHTS) numbers, Size) ∷ []
+
 abbrev pub near_checks : ℕ → Begun → Option (List ℕ) → List Check
 near_checks n begun numbers =
     (is_whole begun, TooFew)
@@ -107,6 +122,10 @@ near_checks n begun numbers =
 -- a listed node is judged as the next item of a list with the wanted number of nodes
 abbrev pub listed_checks : ℕ → Begun → Option (List ℕ) → List Check
 listed_checks n begun numbers = item_checks (Nodes n) First (declaring n (wanted begun)) (length begun.listed) numbers
+
+-- a new weight is judged as the next arc of a graph with the wanted number of arcs
+abbrev pub weight_checks : ℕ → Begun → Option (List ℕ) → List Check
+weight_checks n begun numbers = item_checks Graph First (declaring n begun.weights) (length begun.weighed) numbers
 
 -- the fault of the first check of this line that fails
 abbrev pub failing_at : ℕ → List Check → Option RequestFault
@@ -124,6 +143,8 @@ request_fault n line begun ws =
     else if begins_with ws (codes "q") then failing_at line (query_checks n begun (item (Queries n) First ws))
     else if begins_with ws (codes "r") then failing_at line (query_checks n begun (route_numbers ws))
     else if begins_with ws (codes "n") then failing_at line (near_checks n begun (near_numbers ws))
+    else if begins_with ws (codes "w") then failing_at line (weights_checks begun (weights_numbers ws))
+    else if begins_with ws (codes "a") then failing_at line (weight_checks n begun (item Graph First ws))
     else if begins_with ws (codes "t") then table_fault line begun (table_numbers ws)
     else if begins_with ws (codes "p") then failing_at line (places_checks begun (places_numbers ws))
     else if begins_with ws (codes "s") then failing_at line (listed_checks n begun (item (Nodes n) First ws))
@@ -140,24 +161,25 @@ end_of_requests line begun = failing_at line ((is_whole begun, TooFew) ∷ [])
 
 -- the result of a line: the requests that it completes, and the request that is begun after it
 pub record Made : Type 0 where
-  pub given : List Request
+  pub given : List Asked
   pub begun : Begun
 
 abbrev pub none_made : Begun → Made
 none_made begun = record { given = []; begun = begun }
 
--- the request of these lists
-abbrev pub request_for : Purpose → ℕ → List ℕ → Request
-request_for (ForTable within) sources listed =
-    Table (record { sources = take sources listed; targets = drop sources listed; within = within })
-request_for (ForPlaces count) sources listed = Places (record { nodes = listed; count = count })
+-- the request of these lists, or the new weights
+abbrev pub asked_by : Purpose → ℕ → List ℕ → List NewWeight → Asked
+asked_by (ForTable within) sources listed weighed =
+    Asks (Table (record { sources = take sources listed; targets = drop sources listed; within = within }))
+asked_by (ForPlaces count) sources listed weighed = Asks (Places (record { nodes = listed; count = count }))
+asked_by (ForWeights line) sources listed weighed = Weights (record { line = line; listed = weighed })
 
--- the request that is begun is given as soon as it has its nodes
-abbrev pub request_of : Begun → Request
-request_of begun = request_for begun.purpose begun.sources begun.listed
+-- the request that is begun is given as soon as it has its nodes, or its new weights
+abbrev pub asked_of : Begun → Asked
+asked_of begun = asked_by begun.purpose begun.sources begun.listed begun.weighed
 
 abbrev pub settled : Begun → Made
-settled begun = if is_whole begun then record { given = request_of begun ∷ []; begun = nothing } else none_made begun
+settled begun = if is_whole begun then record { given = asked_of begun ∷ []; begun = nothing } else none_made begun
 
 abbrev pub query_from : ℕ × ℕ → Request
 query_from pair = Query pair.0 pair.1
@@ -165,16 +187,20 @@ query_from pair = Query pair.0 pair.1
 abbrev pub route_from : ℕ × ℕ → Request
 route_from pair = Route pair.0 pair.1
 
--- the node S and the limit R, if there is one
-abbrev pub near_from : List ℕ → ℕ × Option ℕ
-near_from ns = (node_from ns, slice_get ns 1)
-
-abbrev pub row_from : ℕ × Option ℕ → Request
-row_from near = Near near.0 near.1
+-- the near row of S, within R if there is an R
+abbrev pub row_from : List ℕ → Request
+row_from ns = Near (node_from ns) (slice_get ns 1)
 
 -- a table of K sources and L targets, within R if there is an R
 abbrev pub table_from : List ℕ → Begun
-table_from ns = record { purpose = ForTable (slice_get ns 2); sources = slice_index ns 0; targets = slice_index ns 1; listed = [] }
+table_from ns = record {
+  purpose = ForTable (slice_get ns 2);
+  sources = slice_index ns 0;
+  targets = slice_index ns 1;
+  listed = [];
+  weights = 0;
+  weighed = [];
+}
 
 -- a number of places, or `None` for 0, which stands for all
 abbrev pub count_or_all : ℕ → Option ℕ
@@ -182,22 +208,58 @@ count_or_all k = if k == 0 then None else Some k
 
 -- L places, with K in a row
 abbrev pub places_from : List ℕ → Begun
-places_from ns = record { purpose = ForPlaces (count_or_all (slice_index ns 1)); sources = 0; targets = slice_index ns 0; listed = [] }
+places_from ns = record {
+  purpose = ForPlaces (count_or_all (slice_index ns 1));
+  sources = 0;
+  targets = slice_index ns 0;
+  listed = [];
+  weights = 0;
+  weighed = [];
+}
+
+-- K new weights, whose list begins at this line
+abbrev pub weights_from : ℕ → List ℕ → Begun
+weights_from line ns =
+    record { purpose = ForWeights line; sources = 0; targets = 0; listed = []; weights = slice_index ns 0; weighed = [] }
+
+-- the new weight W of each arc from U to V, with its line
+abbrev pub weight_from : ℕ → List ℕ → NewWeight
+weight_from line ns =
+    record { from = slice_index ns 0 - 1; to = slice_index ns 1 - 1; weight = slice_index ns 2; line = line }
 
 abbrev pub with_node : Begun → ℕ → Begun
-with_node begun node =
-    record { purpose = begun.purpose; sources = begun.sources; targets = begun.targets; listed = begun.listed ++ node ∷ [] }
+with_node begun node = record {
+  purpose = begun.purpose;
+  sources = begun.sources;
+  targets = begun.targets;
+  listed = begun.listed ++ node ∷ [];
+  weights = begun.weights;
+  weighed = begun.weighed;
+}
 
--- the result of a line of these words, if it has no fault
-abbrev pub made : ℕ → Begun → List (List ℕ) → Made
-made n begun ws =
+abbrev pub with_weight : Begun → NewWeight → Begun
+with_weight begun weight = record {
+  purpose = begun.purpose;
+  sources = begun.sources;
+  targets = begun.targets;
+  listed = begun.listed;
+  weights = begun.weights;
+  weighed = begun.weighed ++ weight ∷ [];
+}
+
+-- the result of this line of these words, if it has no fault
+abbrev pub made : ℕ → ℕ → Begun → List (List ℕ) → Made
+made n line begun ws =
     if is_skipped ws then none_made begun
-    else if begins_with ws (codes "q") then option_map_or (λ ns. record { given = query_from (pair_from ns) ∷ []; begun = begun })
+    else if begins_with ws (codes "q") then option_map_or (λ ns. record { given = Asks (query_from (pair_from ns)) ∷ []; begun = begun })
     (item (Queries n) First ws) (none_made begun)
-    else if begins_with ws (codes "r") then option_map_or (λ ns. record { given = route_from (pair_from ns) ∷ []; begun = begun })
+    else if begins_with ws (codes "r") then option_map_or (λ ns. record { given = Asks (route_from (pair_from ns)) ∷ []; begun = begun })
     (route_numbers ws) (none_made begun)
-    else if begins_with ws (codes "n") then option_map_or (λ ns. record { given = row_from (near_from ns) ∷ []; begun = begun })
+    else if begins_with ws (codes "n") then option_map_or (λ ns. record { given = Asks (row_from ns) ∷ []; begun = begun })
     (near_numbers ws) (none_made begun)
+    else if begins_with ws (codes "w") then option_map_or (λ ns. settled (weights_from line ns)) (weights_numbers ws) (none_made begun)
+    else if begins_with ws (codes "a") then option_map_or (λ ns. settled (with_weight begun (weight_from line ns)))
+    (item Graph First ws) (none_made begun)
     else if begins_with ws (codes "t") then option_map_or (λ ns. settled (table_from ns)) (table_numbers ws) (none_made begun)
     else if begins_with ws (codes "p") then option_map_or (λ ns. settled (places_from ns)) (places_numbers ws) (none_made begun)
     else option_map_or (λ ns. settled (with_node begun (node_from ns))) (item (Nodes n) First ws) (none_made begun)
@@ -205,10 +267,10 @@ made n begun ws =
 -- the requests and the fault of some bytes: the requests that are whole before the first fault, and that fault, if
 -- there is one
 pub record Told : Type 0 where
-  pub given : List Request
+  pub given : List Asked
   pub fault : Option RequestFault
 
-abbrev pub after_these : List Request → Told → Told
+abbrev pub after_these : List Asked → Told → Told
 after_these first told = record { given = first ++ told.given; fault = told.fault }
 
 abbrev pub stopping : Option RequestFault → Told
@@ -223,7 +285,8 @@ abbrev pub told : ℕ → ℕ → Begun → List (List ℕ) → Told
 told n line begun [] = stopping (end_of_requests (line_after line) begun)
 told n line begun (text ∷ more) =
     if is_none (text_fault n (line_after line) begun text)
-    then after_these (made n begun (words text)).given (told n (line_after line) (made n begun (words text)).begun more)
+    then after_these (made n (line_after line) begun (words text)).given
+    (told n (line_after line) (made n (line_after line) begun (words text)).begun more)
     else stopping (text_fault n (line_after line) begun text)
 
 -- the requests of a stream on a graph of n nodes, and its fault
@@ -255,12 +318,12 @@ MayCome ended more = ended ≡ true → more ≡ []
 
 -- for every continuation of the input: the requests and the fault that were ahead are these requests and then those
 -- that are ahead now
-abbrev pub Gives : Bool → Standing → Standing → List Request → Type 0
+abbrev pub Gives : Bool → Standing → Standing → List Asked → Type 0
 Gives ended old new given = (more : List ℕ) → MayCome ended more → ahead old more ≡ after_these given (ahead new more)
 
 -- for every continuation of the input: the requests and the fault of the bytes so far are the requests that were given
 -- and then those that are ahead
-abbrev pub HasGiven : Bool → ℕ → List ℕ → Standing → List Request → Type 0
+abbrev pub HasGiven : Bool → ℕ → List ℕ → Standing → List Asked → Type 0
 HasGiven ended n bytes s given = (more : List ℕ) → MayCome ended more → told_by n (bytes ++ more) ≡ after_these given (ahead s more)
 
 -- no line is whole in the pending bytes, and these fit into a line. At the end no byte is left, and the lists
@@ -290,6 +353,16 @@ pub record ArePlaces (n : ℕ) (places : PlaceList) : Type 0 where
   pub each : All (λ v. v < n) places.nodes
   pub size : length places.nodes ≤ MOST_LISTED
 
+-- a new weight of arcs between nodes of a graph of n nodes, within the limits of an arc
+pub record IsNewWeight (n : ℕ) (new : NewWeight) : Type 0 where
+  pub ends : (new.from < n) × (new.to < n)
+  pub weight : n * new.weight ≤ MOST_WEIGHT
+
+-- new weights, within the limit of their list
+pub record AreNewWeights (n : ℕ) (new : WeightList) : Type 0 where
+  pub each : All (IsNewWeight n) new.listed
+  pub size : length new.listed ≤ MOST_NEW_WEIGHTS
+
 -- a request on a graph of n nodes
 abbrev pub IsRequest : ℕ → Request → Type 0
 IsRequest n (Query s t) = (s < n) × (t < n)
@@ -298,12 +371,17 @@ IsRequest n (Table lists) = AreTwoLists n lists
 IsRequest n (Places places) = ArePlaces n places
 IsRequest n (Near s within) = s < n
 
--- the one request or none
-abbrev pub at_most_one : Option Request → List Request
-at_most_one None = []
-at_most_one (Some r) = r ∷ []
+-- a request or new weights, on a graph of n nodes
+abbrev pub IsAsked : ℕ → Asked → Type 0
+IsAsked n (Asks request) = IsRequest n request
+IsAsked n (Weights new) = AreNewWeights n new
 
--- the request that was given, if any, is one on a graph of n nodes
-abbrev pub IsGiven : ℕ → Option Request → Type 0
+-- the one of these or none
+abbrev pub at_most_one : Option Asked → List Asked
+at_most_one None = []
+at_most_one (Some asked) = asked ∷ []
+
+-- what was given, if anything, is on a graph of n nodes
+abbrev pub IsGiven : ℕ → Option Asked → Type 0
 IsGiven n None = ⊤
-IsGiven n (Some r) = IsRequest n r
+IsGiven n (Some asked) = IsAsked n asked

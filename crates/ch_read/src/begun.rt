@@ -1,9 +1,11 @@
-//! The request whose lists are being read.
+//! The request whose lists are being read, or the new weights.
 ghost use Rattle.std.specs.Prelude.{◌≡◌, ◌≤◌, [], None, length, OnErr, OnOk};
 ghost use Rattle.ch_graph.specs.declared.limits.TheConstants.{MOST_LISTED};
-ghost use Rattle.ch_read.specs.Requests.{at_most_one, is_whole, nothing, request_for, settled, wanted, with_node};
+ghost use Rattle.ch_read.specs.declared.begun.Purpose.TheVariants as PurposeOf;
+ghost use Rattle.ch_read.specs.Requests.{asked_by, at_most_one, is_whole, nothing, settled, wanted, with_node, with_weight};
 
-use crate::request::{NearPlaces, Request, TableLists};
+use crate::new_weights::{NewWeight, NewWeights};
+use crate::request::{Asked, NearPlaces, Request, TableLists};
 use std::alloc::{AllocFailed, Global};
 use std::marker::Model;
 use std::mem;
@@ -15,16 +17,20 @@ pub(crate) enum Purpose {
     Table(Option<u64>),
     /// Places, with the greatest number of them in a near row, or `None` for all.
     Places(Option<u32>),
+    /// New weights, with the number of the line that begins their list.
+    Weights(u64),
 }
 
-/// A request whose lists are being read, or none. Contracts see the purpose of the lists, their sizes, and the
-/// nodes listed so far.
+/// A request whose lists are being read, or new weights, or none of these. Contracts see the purpose of the lists,
+/// their sizes, and what is listed so far.
 #[derive(Drop)]
 pub(crate) struct BegunLists {
     purpose: Purpose,
     sources: u64,
     targets: u64,
     listed: Vec<u32>,
+    weights: u64,
+    weighed: Vec<NewWeight>,
 }
 
 impl Model for BegunLists {
@@ -34,7 +40,7 @@ impl Model for BegunLists {
 
     ghost Value = { Begun };
 
-    ghost view = { λ t. record { purpose = t.purpose; sources = t.sources; targets = t.targets; listed = t.listed.items } };
+    ghost view = { λ t. record { purpose = t.purpose; sources = t.sources; targets = t.targets; listed = t.listed.items; weights = t.weights; weighed = t.weighed.items } };
 
     ghost invariant = { λ t. (t.sources ≤ MOST_LISTED) × (t.targets ≤ MOST_LISTED) };
 }
@@ -49,6 +55,8 @@ impl BegunLists {
             sources: 0,
             targets: 0,
             listed: Vec::new(alloc),
+            weights: 0,
+            weighed: Vec::new(alloc),
         }
     }
 
@@ -66,22 +74,46 @@ impl BegunLists {
         self.listed.len() as u64
     }
 
-    /// Whether the lists have all their nodes.
+    /// Returns the number of new weights in its list.
+    pub(crate) fn weights(&self) -> u64
+        ensures { result ≡ self.now.weights }
+    {
+        self.weights
+    }
+
+    /// Returns the number of new weights listed so far.
+    pub(crate) fn weight_count(&self) -> u64
+        ensures { result ≡ length self.now.weighed }
+    {
+        self.weighed.len() as u64
+    }
+
+    /// Whether the lists have all their nodes, or all their new weights.
     pub(crate) fn is_whole(&self) -> bool
         ensures { result ≡ is_whole self.now }
     {
-        self.wanted() <= self.count()
+        self.wanted() <= self.count() && self.weights <= self.weight_count()
     }
 
     /// Begins a request with lists of these sizes. The nodes listed before are dropped.
     pub(crate) fn begin(&mut self, purpose: Purpose, sources: u64, targets: u64)
         requires { (sources ≤ MOST_LISTED) × (targets ≤ MOST_LISTED) }
-        ensures { self.new ≡ record { purpose = purpose; sources = sources; targets = targets; listed = [] } }
+        ensures { self.new ≡ record { purpose = purpose; sources = sources; targets = targets; listed = []; weights = 0; weighed = [] } }
     {
         self.purpose = purpose;
         self.sources = sources;
         self.targets = targets;
         self.listed.clear();
+        self.weights = 0;
+        self.weighed.clear();
+    }
+
+    /// Begins a list of this many new weights at this line. What was listed before is dropped.
+    pub(crate) fn begin_weights(&mut self, line: u64, weights: u64)
+        ensures { self.new ≡ record { purpose = PurposeOf.Weights line; sources = 0; targets = 0; listed = []; weights = weights; weighed = [] } }
+    {
+        self.begin(Purpose::Weights(line), 0, 0);
+        self.weights = weights;
     }
 
     /// Lists a node.
@@ -92,9 +124,17 @@ impl BegunLists {
         self.listed.push(node)
     }
 
-    /// Returns the request if it has all its nodes, and `None` otherwise. After a request is returned, none is
-    /// begun.
-    pub(crate) fn settle(&mut self, alloc: Global) -> Option<Request>
+    /// Lists a new weight.
+    pub(crate) fn push_weight(&mut self, weight: NewWeight) -> Result<(), AllocFailed<NewWeight>>
+        ensures pushed { OnOk result (self.new ≡ with_weight self.old weight) }
+        ensures same { OnErr result (self.new ≡ self.old) }
+    {
+        self.weighed.push(weight)
+    }
+
+    /// Returns the request if it has all its nodes, or the new weights if they are all there, and `None` otherwise.
+    /// After something is returned, no list is being read.
+    pub(crate) fn settle(&mut self, alloc: Global) -> Option<Asked>
         requires { length self.old.listed ≤ wanted self.old }
         ensures { settled self.old ≡ record { given = at_most_one result; begun = self.new } }
     {
@@ -104,20 +144,25 @@ impl BegunLists {
         let purpose = self.purpose;
         let sources = self.sources as usize;
         let listed = mem::replace(&mut self.listed, Vec::new(alloc));
+        let weighed = mem::replace(&mut self.weighed, Vec::new(alloc));
         self.purpose = Purpose::Table(None);
         self.sources = 0;
         self.targets = 0;
-        Some(request_for(purpose, sources, listed))
+        self.weights = 0;
+        Some(asked_by(purpose, sources, listed, weighed))
     }
 }
 
-/// Makes the request of these lists.
-fn request_for(purpose: Purpose, sources: usize, listed: Vec<u32>) -> Request
+/// Makes the request of these lists, or the new weights.
+fn asked_by(purpose: Purpose, sources: usize, listed: Vec<u32>, weighed: Vec<NewWeight>) -> Asked
     requires { sources ≤ length listed.items }
-    ensures { result ≡ request_for purpose sources listed.items }
+    ensures { result ≡ asked_by purpose sources listed.items weighed.items }
 {
     match purpose {
-        Purpose::Table(within) => Request::Table(TableLists::new(listed, sources, within)),
-        Purpose::Places(count) => Request::Places(NearPlaces::new(listed, count)),
+        Purpose::Table(within) => {
+            Asked::Request(Request::Table(TableLists::new(listed, sources, within)))
+        }
+        Purpose::Places(count) => Asked::Request(Request::Places(NearPlaces::new(listed, count))),
+        Purpose::Weights(line) => Asked::Weights(NewWeights::new(line, weighed)),
     }
 }

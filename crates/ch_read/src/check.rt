@@ -4,7 +4,7 @@ ghost use Rattle.std.specs.List.{list_all};
 ghost use Rattle.std.specs.Str.{bytes_eq};
 ghost use Rattle.ch_read.specs.Words.{words};
 ghost use Rattle.ch_read.specs.Forms.{problem_words, problem_size, numbers_after, heading_from, item_word, item_size, node_count};
-ghost use Rattle.ch_read.specs.Checks.{is_size, is_node, is_middle, are_nodes, is_weight, passes, problem_checks, item_checks, line_checks, end_checks};
+ghost use Rattle.ch_read.specs.Checks.{is_size, is_skipped, is_node, is_middle, are_nodes, is_weight, passes, problem_checks, item_checks, line_checks, end_checks};
 ghost use Rattle.ch_read.specs.Reading.{AreCapped, IsOther, IsAfter, item_from, IsProblem, IsItem, IsLine, IsEnd, Fails};
 
 use crate::fault::FaultKind;
@@ -36,12 +36,9 @@ pub fn check_line(
     ensures { let ws = words line.now in
         MatchResult result (IsLine form seen counts ws) (Fails (line_checks form seen counts ws)) }
 {
-    let Some((first, rest)) = split_word(line) else {
+    let Some((first, rest)) = split_item(line) else {
         return Ok(Line::Skipped);
     };
-    if first[0] == b'c' {
-        return Ok(Line::Skipped);
-    }
     if is_letter(first, b'p') {
         return Ok(Line::Problem(check_problem(form, seen, rest)?));
     }
@@ -52,6 +49,19 @@ pub fn check_line(
         return Ok(Line::Second(check_item(form, Part::Second, seen, counts.second, rest)?));
     }
     Err(FaultKind::UnknownLine)
+}
+
+/// Returns the first word of a line and the bytes after it, or `None` if the line has no word or is a comment.
+pub(crate) fn split_item(line: &[u8]) -> Option<(&[u8], &[u8])>
+    ensures { MatchOption result (is_skipped (words line.now) ≡ true)
+        (λ (first, rest). (words line.now ≡ first.now ∷ words rest.now) × (is_skipped (words line.now) ≡ false)) }
+{
+    let (first, rest) = split_word(line)?;
+    if first[0] == b'c' {
+        None
+    } else {
+        Some((first, rest))
+    }
 }
 
 /// Judges the end of a file. `seen` is the heading of the file, if there is one, and `counts` are its numbers

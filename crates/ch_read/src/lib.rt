@@ -34,7 +34,8 @@
 //!
 //! # Requests
 //!
-//! A stream of requests has these lines. Lines `s V` list nodes. They follow the line with their number.
+//! A stream of requests has these lines. Lines `s V` list nodes, and lines `a U V W` new weights. They follow the line
+//! with their number.
 //!
 //! | line | what it asks for |
 //! |---|---|
@@ -43,6 +44,7 @@
 //! | `t K L`, `t K L R` | a table of the next K listed nodes and then L, sources first; its own limit is R |
 //! | `p L K` | nothing: the next L listed nodes are the places of later near rows, with K in a row, or all if K is 0 |
 //! | `n S`, `n S R` | the near row of S among the places that were given last; its own limit is R |
+//! | `w K` | nothing: for each of the next K lines `a U V W`, each arc from U to V weighs W for all later requests |
 //!
 //! Lines are skipped as in files, but no line may have more than [`MOST_LINE`] bytes. The others are judged in
 //! order:
@@ -50,13 +52,15 @@
 //! | line | check | where it fails |
 //! |---|---|---|
 //! | any, also a comment | it has at most [`MOST_LINE`] bytes | `BadLine` |
-//! | any | its first word is `q`, `r`, `t`, `p`, `n` or `s` | `UnknownLine` |
-//! | all but `s`, after the last | nothing that was begun wants a node | `TooFew` |
+//! | any | its first word is `q`, `r`, `t`, `p`, `n`, `w`, `s` or `a` | `UnknownLine` |
+//! | all but `s` and `a`, after the last | nothing that was begun wants a node or a new weight | `TooFew` |
 //! | any | it has numbers in their places, and no other words | `BadLine` |
 //! | `t`, `p` | K and L are at most [`MOST_LISTED`](ch_graph::limits::MOST_LISTED) | `Size` |
-//! | `s` | what was begun wants a node | `TooMany` |
-//! | `q`, `r`, `n`, `s` | each node is from 1 to the number of nodes | `NodeRange` |
+//! | `w` | K is at most [`MOST_NEW_WEIGHTS`] | `Size` |
+//! | `s`, `a` | what was begun wants a node, or a new weight | `TooMany` |
+//! | `q`, `r`, `n`, `s`, `a` | each node is from 1 to the number of nodes | `NodeRange` |
 //! | `t`, `n` | R is at most [`MOST_WEIGHT`](ch_graph::limits::MOST_WEIGHT) | `Sum` |
+//! | `a` | the number of nodes times W is at most [`MOST_WEIGHT`](ch_graph::limits::MOST_WEIGHT) | `Sum` |
 //! | `t` | K times L is at most [`MOST_CELLS`](ch_work::limits::MOST_CELLS) | [`Cells`](RequestFault::Cells) |
 #![tactic(auto)]
 
@@ -68,6 +72,7 @@ mod form;
 mod graph;
 mod laws;
 mod lines;
+mod new_weights;
 mod nodes;
 mod number;
 mod pending;
@@ -85,9 +90,10 @@ pub use fault::{FaultKind, ReadError, ReadFault};
 pub use form::Form;
 pub use graph::{read_graph, read_graph_by, read_graph_in_sections};
 pub use laws::{constants, one_answer, requests_by_parts, requests_whole_in_turn};
+pub use new_weights::{MOST_NEW_WEIGHTS, NewWeight, NewWeights};
 pub use nodes::read_nodes;
 pub use queries::read_queries;
-pub use request::{MOST_LINE, NearPlaces, Request, TableLists};
+pub use request::{Asked, MOST_LINE, NearPlaces, Request, TableLists};
 pub use request_fault::{RequestError, RequestFault};
 pub use request_reader::RequestReader;
 pub use saved::{read_order_by, read_saved, read_saved_by, read_saved_in_sections};

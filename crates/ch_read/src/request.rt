@@ -1,9 +1,19 @@
-//! Requests: queries, tables, places and near rows.
+//! Requests: queries, tables, places and near rows. Between them a stream has new weights.
 
+use crate::new_weights::NewWeights;
 use std::marker::Model;
 
 /// The greatest number of bytes in a line of requests, without its line feed.
 pub const MOST_LINE: usize = 65_536;
+
+/// What a stream gives next.
+#[derive(Debug, Drop)]
+pub enum Asked {
+    /// A request on the graph with its present weights.
+    Request(Request),
+    /// New weights for all later requests. They have no answer of their own.
+    Weights(NewWeights),
+}
 
 /// A request on a graph.
 #[derive(Debug, Drop)]

@@ -4,29 +4,29 @@ ghost use Rattle.ch_read.specs.declared.request_fault.RequestFault.TheVariants a
 ghost use Rattle.ch_read.specs.Words.{words};
 ghost use Rattle.ch_read.specs.Forms.{numbers_after};
 ghost use Rattle.ch_read.specs.Names.{node_from, pair_from};
-ghost use Rattle.ch_read.specs.Requests.{IsGiven, count_or_all, failing_at, is_limit, listed_checks, near_checks, near_from, numbers_and_limit, places_checks, places_from, query_checks, table_fault, table_from, text_fault, wanted};
+ghost use Rattle.ch_read.specs.Requests.{IsGiven, IsNewWeight, IsRequest, count_or_all, failing_at, is_limit, listed_checks, near_checks, numbers_and_limit, places_checks, places_from, query_checks, row_from, table_fault, table_from, text_fault, wanted, weight_checks, weight_from, weights_checks, weights_from};
 ghost use Rattle.ch_read.specs.RequestSteps.{FailsAs, IsBegun, IsLimited, IsLineError, Makes, PassesAs};
 
 use crate::begun::{BegunLists, Purpose};
-use crate::check::{check_item, is_letter};
+use crate::check::{check_item, is_letter, split_item};
 use crate::fault::{FaultKind, ReadFault};
 use crate::form::{Form, Heading, Part};
-use crate::lines::split_word;
+use crate::new_weights::{MOST_NEW_WEIGHTS, NewWeight};
 use crate::number::numbers_of;
-use crate::request::{MOST_LINE, Request};
+use crate::request::{Asked, MOST_LINE, Request};
 use crate::request_fault::{RequestError, RequestFault};
 use ch_graph::limits::{MOST_LISTED, MOST_WEIGHT};
 use ch_work::limits::MOST_CELLS;
 use std::alloc::Global;
 
-/// Judges a line. Returns the request that it completes, if any, and updates the request that is begun.
+/// Judges a line. Returns the request or the new weights that it completes, if any, and updates those whose lists are being read.
 pub(crate) fn read_line(
     alloc: Global,
     nodes: u32,
     line: u64,
     begun: &mut BegunLists,
     text: &[u8],
-) -> Result<Option<Request>, RequestError>
+) -> Result<Option<Asked>, RequestError>
     requires { IsBegun nodes begun.old }
     ensures value { MatchResult result (Makes nodes line begun.old begun.new text.now) (IsLineError (text_fault nodes line begun.old text.now)) }
     ensures within { IfOk result (λ given. IsGiven nodes given × IsBegun nodes begun.new) }
@@ -35,23 +35,28 @@ pub(crate) fn read_line(
     if text.len() > MOST_LINE {
         return Err(RequestError::Fault(fault_at(line, FaultKind::BadLine)));
     }
-    let Some((first, rest)) = split_word(text) else {
+    let Some((first, rest)) = split_item(text) else {
         return Ok(None);
     };
-    if first[0] == b'c' {
-        return Ok(None);
-    }
     if is_letter(first, b'q') {
         let (from, to) = check_query(nodes, line, begun, rest)?;
-        return Ok(Some(Request::Query(from, to)));
+        return Ok(Some(Asked::Request(Request::Query(from, to))));
     }
     if is_letter(first, b'r') {
         let (from, to) = check_query(nodes, line, begun, rest)?;
-        return Ok(Some(Request::Route(from, to)));
+        return Ok(Some(Asked::Request(Request::Route(from, to))));
     }
     if is_letter(first, b'n') {
-        let (node, within) = check_near(nodes, line, begun, rest)?;
-        return Ok(Some(Request::Near(node, within)));
+        return Ok(Some(Asked::Request(check_near(nodes, line, begun, rest)?)));
+    }
+    if is_letter(first, b'w') {
+        begin_weights(line, begun, rest)?;
+        return Ok(begun.settle(alloc));
+    }
+    if is_letter(first, b'a') {
+        let weight = check_weight(nodes, line, begun, rest)?;
+        begun.push_weight(weight)?;
+        return Ok(begun.settle(alloc));
     }
     if is_letter(first, b't') {
         begin_table(line, begun, rest)?;
@@ -95,17 +100,17 @@ fn check_query(
     }
 }
 
-/// Judges the rest of a line after its `n`. Returns the node, and the limit if there is one.
+/// Judges the rest of a line after its `n`. Returns the request for its near row.
 fn check_near(
     nodes: u32,
     line: u64,
     begun: &BegunLists,
     rest: &[u8],
-) -> Result<(u32, Option<u64>), RequestFault>
+) -> Result<Request, RequestFault>
     ensures value { let numbers = numbers_and_limit [] 1 (words rest.now) in
         let fault = failing_at line (near_checks nodes begun.now numbers) in
-        MatchResult result (PassesAs fault numbers near_from) (FailsAs fault) }
-    ensures within { IfOk result (λ near. near.0 < nodes) }
+        MatchResult result (PassesAs fault numbers row_from) (FailsAs fault) }
+    ensures within { IfOk result (IsRequest nodes) }
 {
     if !begun.is_whole() {
         return Err(fault_at(line, FaultKind::TooFew));
@@ -119,7 +124,7 @@ fn check_near(
     if !is_limit(near.within) {
         return Err(fault_at(line, FaultKind::Sum));
     }
-    Ok(((near.first - 1) as u32, near.within))
+    Ok(Request::Near((near.first - 1) as u32, near.within))
 }
 
 /// Judges the rest of a line after its `t`, and begins its table.
@@ -177,6 +182,52 @@ fn count_or_all(count: u32) -> Option<u32>
     ensures { result ≡ count_or_all count }
 {
     if count == 0 { None } else { Some(count) }
+}
+
+/// Judges the rest of a line after its `w`, and begins its new weights.
+fn begin_weights(line: u64, begun: &mut BegunLists, rest: &[u8]) -> Result<(), RequestFault>
+    ensures value { let numbers = numbers_after [] 1 (words rest.now) in
+        let fault = failing_at line (weights_checks begun.old numbers) in
+        MatchResult result (λ _. PassesAs fault numbers (weights_from line) begun.new) (FailsAs fault) }
+    ensures within { IfOk result (λ _. (nodes : ℕ) → IsBegun nodes begun.new) }
+    ensures same { OnErr result (begun.new ≡ begun.old) }
+{
+    if !begun.is_whole() {
+        return Err(fault_at(line, FaultKind::TooFew));
+    }
+    let Some(values) = numbers_of(rest, 1) else {
+        return Err(fault_at(line, FaultKind::BadLine));
+    };
+    let weights = values[0];
+    if weights > MOST_NEW_WEIGHTS {
+        return Err(fault_at(line, FaultKind::Size));
+    }
+    begun.begin_weights(line, weights);
+    Ok(())
+}
+
+/// Judges the rest of a line after its `a`. Returns the new weight of its arcs.
+fn check_weight(
+    nodes: u32,
+    line: u64,
+    begun: &BegunLists,
+    rest: &[u8],
+) -> Result<NewWeight, RequestFault>
+    ensures value { let numbers = numbers_after [] 3 (words rest.now) in
+        let fault = failing_at line (weight_checks nodes begun.now numbers) in
+        MatchResult result (PassesAs fault numbers (weight_from line)) (FailsAs fault) }
+    ensures within { IfOk result (λ weight. IsNewWeight nodes weight × (length begun.now.weighed < begun.now.weights)) }
+{
+    let all = Some(Heading::new(nodes, begun.weights(), 0));
+    match check_item(Form::Graph, Part::First, all, begun.weight_count(), rest) {
+        Ok(item) => Ok(NewWeight {
+            from: item.first,
+            to: item.second,
+            weight: item.weight,
+            line,
+        }),
+        Err(kind) => Err(fault_at(line, kind)),
+    }
 }
 
 /// Judges the rest of a line after its `s`.

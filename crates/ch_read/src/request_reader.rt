@@ -6,7 +6,7 @@ ghost use Rattle.ch_read.specs.RequestSteps.{IsGivenBy, IsStep};
 use crate::begun::BegunLists;
 use crate::fault::FaultKind;
 use crate::pending::Pending;
-use crate::request::Request;
+use crate::request::Asked;
 use crate::request_fault::RequestError;
 use crate::request_line::{fault_at, read_line};
 use std::alloc::{AllocError, Global};
@@ -17,14 +17,14 @@ use std::marker::Model;
 enum Step {
     /// The line completed no request.
     Quiet,
-    Given(Request),
+    Given(Asked),
     /// There was no whole line.
     UsedUp,
 }
 
-/// A reader of requests on a graph. Contracts see the number of lines that were read, the request that these
-/// began, and the bytes after them. The reader keeps no line that it has read, and no request that it has
-/// given.
+/// A reader of requests on a graph, and of new weights. Contracts see the number of lines that were read, the
+/// request that these began, and the bytes after them. The reader keeps no line that it has read, and no request
+/// that it has given.
 #[derive(Drop)]
 pub struct RequestReader {
     nodes: u32,
@@ -68,13 +68,13 @@ impl RequestReader {
         self.pending.extend(bytes)
     }
 
-    /// Returns the next whole request, or `None` if no line completes one. `ended` says that the input has
+    /// Returns the next whole request or new weights, or `None` if no line completes any. `ended` says that the input has
     /// ended: then its last line needs no line feed, and `None` means that everything was read.
     ///
     /// # Errors
     /// The next fault, which each further call returns again, or `NoMemory`. The reader then stands before the
     /// line that met it.
-    pub fn next(&mut self, alloc: Global, ended: bool) -> Result<Option<Request>, RequestError>
+    pub fn next(&mut self, alloc: Global, ended: bool) -> Result<Option<Asked>, RequestError>
         ensures nodes { self.new.nodes ≡ self.old.nodes }
         ensures given { IfOk result (λ given. Gives ended self.old self.new (at_most_one given)) }
         ensures used_up { IfOk result (λ given. given ≡ None → IsUsedUp ended self.new) }
@@ -85,7 +85,7 @@ impl RequestReader {
         loop {
             match self.step(alloc, ended)? {
                 Step::Quiet => {}
-                Step::Given(request) => return Ok(Some(request)),
+                Step::Given(asked) => return Ok(Some(asked)),
                 Step::UsedUp => return Ok(None),
             }
         }
@@ -114,7 +114,7 @@ impl RequestReader {
         self.line = line;
         self.pending.advance(taken);
         match given {
-            Some(request) => Ok(Step::Given(request)),
+            Some(asked) => Ok(Step::Given(asked)),
             None => Ok(Step::Quiet),
         }
     }

@@ -5,7 +5,7 @@ use Rattle.std.proofs.lemmas.Result.{IfErr-weaker}
 use Rattle.ch_job.specs.declared.options.Options.{Options}
 use Rattle.ch_run.specs.declared.fault.RunFault.{RunFault}
 use Rattle.ch_run.specs.declared.fault.Which.{Which}
-use Rattle.ch_run.specs.Ask.{IsOfAsk, IsOfServing, ReadsSome, Serves, ServesBy, TextOf}
+use Rattle.ch_run.specs.Ask.{IsOfAsk, IsOfServing, ReadsSome, Rules, Serves, ServesBy, Situation, at_first, rules_from}
 use Rattle.ch_run.specs.Run.{IsOf, Reading, SourceReading}
 use Rattle.ch_run.specs.Source.{IsOfLoading}
 use Rattle.ch_run.specs.Stories.{RunsAsk}
@@ -22,14 +22,19 @@ some_read requests P (read, inl (some, p)) = ((read, inl some), (read, [], p [])
 some_read requests P (read, inr (all, p)) = ((read, inr all), (read, [], p))
 
 -- what a run that serves requests reports, and the faults that it ends in
-module _ {T S : Type 0} (IsTextOf : TextOf) (takes : Calls S) (n : ℕ) (requests : Reading) (old new : S) {same : Type 0} where
-  serves_report : (r : Result T RunFault) → Serves IsTextOf takes n requests old new r →
+module _ {T S : Type 0} (rules : Rules) (takes : Calls S) (n : ℕ) (first : Situation) (requests : Reading) (old new : S)
+    {same : Type 0} where
+  serves_report : (r : Result T RunFault) → Serves rules takes n first requests old new r →
       IfErr r IsOfServing × ReportsReads Which.Requests requests same r × ReportsWrites takes old new r
   serves_report (Ok x) h =
       (tt, inr (λ is. cc, inr (h.read.0, inr h.read.1)), inr (λ is. is, inr (h.output.text, h.output.took)))
   serves_report (Err (RunFault.Read which f)) h = let e = some_read requests _ h.read in
       (inl (sym e.1.2.2.0), inr (λ is. cc, inr e.0), inr (λ is. is, inr (h.output.text, h.output.took)))
   serves_report (Err (RunFault.CellsAt line)) h = let e = some_read requests _ h.read in
+      (inl refl, inr (λ is. cc, inr e.0), inr (λ is. is, inr (h.output.text, h.output.took)))
+  serves_report (Err (RunFault.NoArcAt line)) h = let e = some_read requests _ h.read in
+      (inl refl, inr (λ is. cc, inr e.0), inr (λ is. is, inr (h.output.text, h.output.took)))
+  serves_report (Err (RunFault.FixedAt line)) h = let e = some_read requests _ h.read in
       (inl refl, inr (λ is. cc, inr e.0), inr (λ is. is, inr (h.output.text, h.output.took)))
   serves_report (Err RunFault.Memory) h = let e = some_read requests _ h.read in
       (inl tt, inr (λ is. cc, inr e.0), inr (λ is. is, inr (h.output.text, h.output.took)))
@@ -67,6 +72,6 @@ ask_told options {graph} {saved} {requests} {same = same} {takes} {old} {new} {r
       | inl none ↦
           let told = quiet Which.Graph (omega arith) (λ e is. graph_of saved e is) (rw none.0 tt) (none.1, none.2) in
           (rw none.0 (inl (graph_of saved _ tt)), λ which less. rw none.0 (λ stops. absurd (stops.1 refl)), told)
-      | inr served ↦ let e = serves_report _ takes g.nodes requests old new r served in
+      | inr served ↦ let e = serves_report (rules_from options saved) takes g.nodes (at_first g served.0) requests old new r served.2 in
           (IfErr-weaker r _ _ (λ e own. inr own) e.0, serving_past r e.0, (e.1, e.2, inr (g, h, loaded, served)))
     ])

@@ -8,6 +8,8 @@ pub mod Judged
 pub mod Owed
 pub mod Parts
 pub mod ReadBack
+pub mod NewWeights
+pub mod Frames
 pub mod Answered
 pub mod Gathered
 pub mod Served

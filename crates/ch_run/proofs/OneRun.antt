@@ -1,5 +1,5 @@
 -- Runs over the same bytes write the same text.
-use Rattle.std.proofs.Common.{◌≡◌, ℕ, Bool, true, false, List, take, Option, Some, None, refl, sym, ap, ◌∙◌, subst}
+use Rattle.std.proofs.Common.{◌≡◌, ℕ, Bool, true, false, if◌then◌else◌, List, take, Option, Some, None, refl, sym, ap, ◌∙◌, subst}
 use Rattle.std.specs.Prelude.{⊤}
 use Rattle.ch_graph.specs.Graph.{Network}
 use Rattle.ch_graph.specs.Saved.{OrderAndLegs}
@@ -23,8 +23,9 @@ use Rattle.ch_run.specs.NearRun.{AreSources, IsNearBy}
 use Rattle.ch_run.specs.Run.{CustomizedFile, FoundOrder, GivesOnly, NoFile, NoInput, OneInput, OrderFile, Reading, ReadingIf, ReadsAll}
 use Rattle.ch_run.specs.Run.{ReadsGraph, SavedFile, SourceReading}
 use Rattle.ch_run.specs.SaveRun.{IsSavedBy}
-use Rattle.ch_run.specs.Source.{AreLoaded, IsBuiltToSave, IsOfRoutes, IsServing, IsToSave, ReadsSaved, WithLoaded}
+use Rattle.ch_run.specs.Source.{AreLoaded, IsOfRoutes, IsServing, ReadsSaved, WithLoaded}
 use Rattle.ch_run.specs.TableRun.{IsTabledBy}
+use Rattle.ch_run.specs.declared.needed.Needed.TheVariants.{InOrder, Quick}
 use Rattle.ch_run.specs.Text.{IsTextBy, writes_routes}
 use Rattle.ch_run.proofs.OneText.{one_rows_text, one_text_by}
 
@@ -48,41 +49,31 @@ abbrev HasKnownIf : ReadingIf → Type 0
 HasKnownIf NoInput = ⊤
 HasKnownIf (OneInput input) = (bytes : List ℕ) × GivesOnly input bytes
 
--- there is one hierarchy that serves, and it is right for the graph
-one_serving : (by : OrderBy) (hops : ℕ) (g : Network) (h : Option LevelsAndLegs) (H K : LevelsAndLegs) → IsServing by hops g h H →
-    IsServing by hops g h K → H ≡ K
+-- there is one hierarchy that serves in a named order
+one_serving : (by : OrderBy) (hops : ℕ) (g : Network) (h : Option LevelsAndLegs) (H K : LevelsAndLegs) →
+    IsServing (InOrder by) hops g h H → IsServing (InOrder by) hops g h K → H ≡ K
 one_serving by hops g None H K a b = one_hierarchy by g hops H K a b
 one_serving by hops g (Some L) H K a b = a ∙ sym b
 
--- if the hierarchy that is saved is built, it is built in a named order
-abbrev IsNamedFor : Options → Option LevelsAndLegs → Type 0
-IsNamedFor options None = options.quick ≡ false
-IsNamedFor options (Some _) = ⊤
+-- the hierarchy that is saved is named if it comes from a file, or if it is not built quickly
+abbrev IsNamed : (quick : Bool) → SourceReading → Type 0
+IsNamed quick NoFile = quick ≡ false
+IsNamed quick _ = ⊤
 
--- it is named if it comes from a file, or if it is not built quickly
-abbrev IsNamed : Options → SourceReading → Type 0
-IsNamed options NoFile = options.quick ≡ false
-IsNamed options _ = ⊤
+-- so there is one that is saved
+one_to_save : (graph : Reading) (source : SourceReading) (quick : Bool) → IsNamed quick source → (by : OrderBy) (hops : ℕ) (g : Network)
+    (h : Option LevelsAndLegs) → AreLoaded graph source g h → (H K : LevelsAndLegs) →
+    IsServing (if quick then Quick else InOrder by) hops g h H → IsServing (if quick then Quick else InOrder by) hops g h K → H ≡ K
+one_to_save graph source false named by hops g h loaded H K a b = one_serving by hops g h H K a b
+one_to_save graph source true named by hops g (Some L) loaded H K a b = a ∙ sym b
+one_to_save graph NoFile true named by hops g None loaded H K a b =
+    let quick : true ≡ false = named in absurd (let none : ⊥ = cc in none)
+one_to_save graph _ true named by hops g None loaded H K a b = absurd loaded
 
-named_for : (graph : Reading) (source : SourceReading) (options : Options) → IsNamed options source → (g : Network)
-    (h : Option LevelsAndLegs) → AreLoaded graph source g h → IsNamedFor options h
-named_for graph NoFile options named g None loaded = named
-named_for graph _ options named g (Some K) loaded = tt
-named_for graph _ options named g None loaded = absurd loaded
-
--- a named order has one hierarchy
-one_built : (quick : Bool) (by : OrderBy) (hops : ℕ) (g : Network) (H K : LevelsAndLegs) → quick ≡ false → IsBuiltToSave quick by hops g H →
-    IsBuiltToSave quick by hops g K → H ≡ K
-one_built false by hops g H K named a b = one_hierarchy by g hops H K a b
-one_built true by hops g H K named a b = absurd (let none : ⊥ = cc in none)
-
-one_to_save : (options : Options) (g : Network) (h : Option LevelsAndLegs) → IsNamedFor options h → (H K : LevelsAndLegs) →
-    IsToSave options g h H → IsToSave options g h K → H ≡ K
-one_to_save options g None named H K a b = one_built options.quick options.order options.hops.number g H K named a b
-one_to_save options g (Some L) named H K a b = a ∙ sym b
-
+-- a hierarchy that serves in a named order is right for the graph
 serving_kept : (graph : Reading) (source : SourceReading) (by : OrderBy) (hops : ℕ) → IsHopBound hops → (g : Network)
-    (h : Option LevelsAndLegs) → AreLoaded graph source g h → (H : LevelsAndLegs) → IsServing by hops g h H → IsKept g H
+    (h : Option LevelsAndLegs) → AreLoaded graph source g h → (H : LevelsAndLegs) →
+    IsServing (InOrder by) hops g h H → IsKept g H
 serving_kept graph NoFile by hops bound g None loaded H is = hierarchies_kept by g hops H loaded.0 bound is
 serving_kept graph NoFile by hops bound g (Some K) (limits, read, same) H is = absurd (let none : ⊥ = cc in none)
 serving_kept graph (SavedFile saved) by hops bound g (Some K) loaded H is = subst (IsKept g) (sym is) loaded.1.names.1
@@ -164,10 +155,10 @@ module _ (graph : Reading) (graph_bytes : List ℕ) (told : GivesOnly graph grap
       one_rows_text options g p.0 p.1 text other p.3 (rw (from, to) at q.3))
 
   -- and one text of the hierarchy
-  pub saves_one : (source : SourceReading) (options : Options) → IsNamed options source → HasKnown source → (text other : List ℕ) →
+  pub saves_one : (source : SourceReading) (options : Options) → IsNamed options.quick source → HasKnown source → (text other : List ℕ) →
       IsSavedBy options graph source text → IsSavedBy options graph source other → text ≡ other
   saves_one source options named known text other t u = both source known _ _ t u (λ g h loaded p q.
-      let same : q.0 ≡ p.0 = one_to_save options g h (named_for graph source options named g h loaded) q.0 p.0 q.1 p.1 in
+      let same : q.0 ≡ p.0 = one_to_save graph source options.quick named options.order options.hops.number g h loaded q.0 p.0 q.1 p.1 in
       one_hierarchy_text p.0 text other p.2 (subst (λ (H : LevelsAndLegs). IsHierarchyText H other) same q.2))
 
 -- near rows by a saved hierarchy are those of the graph

@@ -60,12 +60,6 @@ pub loads_serving : {S T : Type 0} (graph : Reading) (source : SourceReading) (r
 loads_serving graph source r next done g R goes = loads_as (Ok done) r graph source (λ P none. absurd none)
     (λ k h is. subst (λ (m : Network). next m h) is.0 (goes h (subst (λ (m : Network). R m h) (sym is.0) is.1)))
 
--- the same for one hierarchy
-pub loads_on : {S T : Type 0} (graph : Reading) (source : SourceReading) (r : Result T RunFault)
-    (next : Network → Option LevelsAndLegs → Type 0) {unread later : Type 0} (done : S) (g : Network) (h : Option LevelsAndLegs) →
-    next g h → Loads {T = S} graph source unread (Ok done) ⊤ (λ k l. (g ≡ k) × (h ≡ l)) → Loads graph source unread r later next
-loads_on graph source r next done g h goes = loads_serving graph source r next done g (λ k l. h ≡ l) (λ l is. subst (next g) is goes)
-
 -- a run that stopped at an input that only some runs have stops its story there
 pub if_stops : {T V : Type 0} (r : Result T RunFault) (which : Which) (input : ReadingIf) (names : List ℕ → V → Type 0)
     (refuses : List ℕ → RunFault → Type 0) (later : Type 0) (next : Option V → Type 0) (e : RunFault) → IsErrAnd r (λ other. other ≡ e) →

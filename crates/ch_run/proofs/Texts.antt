@@ -1,5 +1,5 @@
 -- The texts that options ask for, from those by a hierarchy.
-use Rattle.std.proofs.Common.{◌≡◌, ℕ, Bool, true, false, List, [], ◌∷◌, ◌++◌, Option, refl, sym, ap₂, ◌∙◌, subst}
+use Rattle.std.proofs.Common.{◌≡◌, ℕ, Bool, true, false, if◌then◌else◌, List, [], ◌∷◌, ◌++◌, Option, refl, sym, ap₂, ◌∙◌, subst}
 use Rattle.std.specs.Prelude.{IfOk, Result, Vec}
 use Rattle.std.specs.declared.alloc.Global.{Global}
 use Rattle.std.proofs.lemmas.Grind.{flat_map-append}
@@ -8,7 +8,6 @@ use Rattle.std.proofs.lemmas.Result.{IfOk-weaker}
 use Rattle.ch_graph.specs.Graph.{Network, IsWithinLimits}
 use Rattle.ch_hierarchy.specs.Hierarchy.{LevelsAndLegs, nodes_of}
 use Rattle.ch_hierarchy.specs.Kept.{IsKept}
-use Rattle.ch_contract.specs.declared.measure.OrderBy.{OrderBy}
 use Rattle.ch_query.specs.declared.answer.Answer.{Answer}
 use Rattle.ch_query.specs.Replies.{IsReply}
 use Rattle.ch_rows.specs.Direction.{facing}
@@ -27,8 +26,10 @@ use Rattle.ch_run.proofs.Parts.{bytes_of}
 use Rattle.ch_run.specs.Lines.{AreReplyLines, HasLines}
 use Rattle.ch_run.specs.NearRows.{HasNearRows}
 use Rattle.ch_run.specs.NearRun.{nodes_of_sources}
-use Rattle.ch_run.specs.Source.{IsInPlaceOf, IsServing}
-use Rattle.ch_run.specs.Text.{IsNearTextFor, IsTextBy}
+use Rattle.ch_run.specs.Source.{IsOfRoutes, IsServing, needed_by_queries}
+use Rattle.ch_run.specs.Text.{IsNearTextFor, IsTextBy, writes_routes}
+use Rattle.ch_run.specs.declared.needed.Needed.{Needed}
+use Rattle.ch_run.specs.declared.needed.Needed.TheVariants.{Any, InOrder}
 
 -- the lines of the replies of a hierarchy that is right for a graph are the text that is asked for
 pub replies_text : (g : Network) (H : LevelsAndLegs) → IsWithinLimits g → IsKept g H →
@@ -52,20 +53,28 @@ short_more g queries query answer before after short so_far more =
       more ∙ ap₂ ◌++◌ so_far.2 one.2 ∙ sym (flat_map-append distance_text so_far.0 one.0),
     )
 
--- the text has the routes of the wanted hierarchy, or only distances, which are the same for each hierarchy
-pub text_in : (routes : Bool) (wanted : OrderBy) (hops : ℕ) (g : Network) (h : Option LevelsAndLegs) (H : LevelsAndLegs) →
-    (routes ≡ true → IsServing wanted hops g h H) → (queries : List (ℕ × ℕ)) (text : List ℕ) →
-    IsTextBy routes g (λ K. K ≡ H) queries text → IsTextBy routes g (IsServing wanted hops g h) queries text
-text_in false wanted hops g h H is queries text t = t
-text_in true wanted hops g h H is queries text t = (t.0, subst (IsServing wanted hops g h) (sym t.1) (is refl), t.2)
+-- a text by one of some hierarchies is one by one of others, if those are among these
+pub text_among : (routes : Bool) (g : Network) (From Other : LevelsAndLegs → Type 0) → ((H : LevelsAndLegs) → From H → Other H) →
+    (queries : List (ℕ × ℕ)) (text : List ℕ) → IsTextBy routes g From queries text → IsTextBy routes g Other queries text
+text_among false g From Other among queries text t = t
+text_among true g From Other among queries text t = (t.0, among t.0 t.1, t.2)
 
--- a text that is that of the hierarchy that serves is that of the one in whose place it serves
-pub text_in_place : (routes : Bool) (wanted : OrderBy) (hops : ℕ) (g : Network) (h serving : Option LevelsAndLegs) →
-    IsInPlaceOf routes g h serving → (queries : List (ℕ × ℕ)) (text : List ℕ) →
-    IsTextBy routes g (IsServing wanted hops g serving) queries text → IsTextBy routes g (IsServing wanted hops g h) queries text
-text_in_place true wanted hops g h serving place queries text t =
-    subst (λ o. IsTextBy true g (IsServing wanted hops g o) queries text) place t
-text_in_place false wanted hops g h serving place queries text t = t
+-- the text by a hierarchy that serves has the routes of the wanted one, or only distances, which are the same for each hierarchy
+pub text_of_needed : (options : Options) (needed : Needed) → needed ≡ needed_by_queries options → (g : Network)
+    (h saved : Option LevelsAndLegs) → ((K : LevelsAndLegs) → IsServing needed options.hops.number g saved K →
+    IsServing needed options.hops.number g h K) → (queries : List (ℕ × ℕ)) (text : List ℕ) →
+    IsTextBy (writes_routes options) g (IsServing needed options.hops.number g saved) queries text →
+    IsTextBy (writes_routes options) g (IsOfRoutes options g h) queries text
+text_of_needed options needed is g h saved place queries text t = at (writes_routes options)
+    (subst (λ (n : Needed). IsTextBy (writes_routes options) g (IsServing n options.hops.number g h) queries text) is
+    (text_among (writes_routes options) g (IsServing needed options.hops.number g saved) (IsServing needed options.hops.number g h) place
+    queries text t))
+  where
+    at : (routes : Bool) →
+        IsTextBy routes g (IsServing (if routes then InOrder options.order else Any) options.hops.number g h) queries text →
+        IsTextBy routes g (IsServing (InOrder options.order) options.hops.number g h) queries text
+    at true t = t
+    at false t = t
 
 -- if a call makes the near rows of a hierarchy that is right for a graph, it makes those of the graph
 pub made_of_graph : {E : Type 0} (H : LevelsAndLegs) (options : Options) (sources : Sources (Vec ℕ Global)) (targets : List ℕ)

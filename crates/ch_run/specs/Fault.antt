@@ -32,6 +32,8 @@ abbrev pub fault_words : RunFault → List ℕ
 fault_words (RunFault.Read which fault) = read_heading which ++ read_fault_text fault
 fault_words RunFault.Cells = codes "too many cells"
 fault_words (RunFault.CellsAt line) = codes "request line " ++ decimal line ++ codes ": too many cells"
+fault_words (RunFault.NoArcAt line) = codes "request line " ++ decimal line ++ codes ": no such arc"
+fault_words (RunFault.FixedAt line) = codes "request line " ++ decimal line ++ codes ": needs --customizable"
 fault_words RunFault.Memory = codes "out of memory"
 fault_words (RunFault.Device which) = codes "cannot read " ++ input_name which
 fault_words (RunFault.Write count) = codes "cannot write after " ++ decimal count ++ codes " bytes"
@@ -49,6 +51,8 @@ abbrev pub status_of : RunFault → ℕ
 status_of (RunFault.Read _ _) = 1
 status_of RunFault.Cells = 1
 status_of (RunFault.CellsAt _) = 1
+status_of (RunFault.NoArcAt _) = 1
+status_of (RunFault.FixedAt _) = 1
 status_of RunFault.Memory = 3
 status_of (RunFault.Device _) = 3
 status_of (RunFault.Write _) = 3

@@ -7,6 +7,8 @@ pub mod Stories
 pub mod Told
 pub mod Source
 pub mod Customized
+pub mod Frames
+pub mod Weighing
 pub mod Loaded
 pub mod SavedTextLaws
 pub mod TextLaws

@@ -1,64 +1,112 @@
 -- The promises of the parts of a run over requests.
-use Rattle.std.specs.Prelude.{◌≡◌, ℕ, ◌+◌, ◌<◌, ◌≤◌, Bool, if◌then◌else◌, List, ◌++◌, length, take, map, All}
-use Rattle.std.specs.Prelude.{Option, Some, None, Result, Ok, Err, MatchResult, ⊤}
+use Rattle.std.specs.Prelude.{◌≡◌, ℕ, ◌+◌, ◌<◌, ◌≤◌, Bool, true, false, if◌then◌else◌, List, [], ◌∷◌, ◌++◌, length, take, map, All}
+use Rattle.std.specs.Prelude.{Option, Some, None, is_some, Result, Ok, Err, MatchOption, MatchResult, ⊤}
 use Rattle.ch_hierarchy.specs.Hierarchy.{nodes_of}
 use Rattle.ch_rows.specs.declared.direction.Direction.{Direction}
 use Rattle.ch_rows.specs.Direction.{facing}
 use Rattle.ch_rows.specs.Near.{Wanted}
+use Rattle.ch_read.specs.declared.request.Asked.{Asked}
+use Rattle.ch_read.specs.declared.request.Asked.TheVariants.{Weights}
 use Rattle.ch_read.specs.declared.request.Request.{Request}
 use Rattle.ch_read.specs.declared.request.Request.TheVariants.{Near}
-use Rattle.ch_read.specs.RequestLists.{PlaceList}
+use Rattle.ch_read.specs.RequestLists.{PlaceList, WeightList}
 use Rattle.ch_read.specs.declared.request_fault.RequestFault.TheVariants.{Line, Cells}
 use Rattle.ch_read.specs.declared.request_fault.RequestError.{RequestError}
 use Rattle.ch_read.specs.declared.request_fault.RequestError.TheVariants.{Fault, NoMemory}
 use Rattle.ch_read.specs.Reading.{capped_number}
-use Rattle.ch_read.specs.Requests.{IsErrorAhead, IsUsedUp, MayCome, Standing, after_these, ahead, query_from, route_from, told_by}
+use Rattle.ch_read.specs.Requests.{AreNewWeights, ArePlaces, IsErrorAhead, IsUsedUp, MayCome, Standing, after_these, ahead, query_from}
+use Rattle.ch_read.specs.Requests.{route_from, told_by}
 use Rattle.ch_run.specs.declared.fault.RunFault.{RunFault}
 use Rattle.ch_run.specs.declared.run.batch.Then.{Then}
-use Rattle.ch_run.specs.declared.run.batch.Then.TheVariants.{More, Nothing, Stop}
+use Rattle.ch_run.specs.declared.run.batch.Then.TheVariants.{More, NewWeights, Nothing, Stop}
 use Rattle.ch_run.specs.declared.run.answering.Answering.{Answering}
 use Rattle.ch_run.specs.declared.run.answering.Room.{Room}
 use Rattle.ch_run.specs.declared.fault.Which.{Which}
 use Rattle.ch_run.specs.Loaded.{GraphAndHierarchy, IsRight}
-use Rattle.ch_run.specs.Ask.{AreAnswered, IsTextOfRequest, TellsFirst, TextOf, TookAnswers, failed_write, no_places, places_after}
-use Rattle.ch_text.specs.Moves.{Took, TookUntilFault}
+use Rattle.ch_job.specs.declared.options.Options.{Options}
+use Rattle.ch_run.specs.Ask.{AreAnswered, IsTextOfRequest, Rules, Serves, Situation, TellsFirst, TextOf, TookAnswers, failed_write}
+use Rattle.ch_run.specs.Ask.{no_places, places_after, rules_of}
+use Rattle.ch_run.specs.Frames.{IsCustomizedBy, OrderAndTopology}
+use Rattle.ch_run.specs.Run.{reading}
+use Rattle.ch_text.specs.Moves.{Gave, GaveAll, Took, TookUntilFault}
 use Rattle.ch_text.specs.declared.device.DeviceFault.{DeviceFault}
 
--- these bytes were read, and the run ends in this fault after the requests that it answered, whatever bytes may be left
-pub record Ends {S : Type 0} (IsTextOf : TextOf) (gives : S → List ℕ → Result ℕ DeviceFault → S → Type 0) (n : ℕ) (ended : Bool)
-    (read : List ℕ) (old new : S) (fault : RunFault) : Type 0 where
-  pub answered : List Request
-  pub told : (left : List ℕ) → MayCome ended left → TellsFirst {T = Unit} answered (Err fault) (told_by n (read ++ left))
-  pub output : TookAnswers IsTextOf gives old new (failed_write {T = Unit} (Err fault)) answered
+-- these bytes were read, and the run ends in this fault after what it answered, whatever bytes may be left
+pub record Ends {S : Type 0} (rules : Rules) (gives : S → List ℕ → Result ℕ DeviceFault → S → Type 0) (n : ℕ) (ended : Bool)
+    (read : List ℕ) (first : Situation) (old new : S) (fault : RunFault) : Type 0 where
+  pub answered : List Asked
+  pub last : Situation
+  pub told : (left : List ℕ) → MayCome ended left → TellsFirst {T = Unit} rules last answered (Err fault) (told_by n (read ++ left))
+  pub output : TookAnswers rules gives first last old new (failed_write {T = Unit} (Err fault)) answered
 
--- the output took the answers to these requests, `written` bytes, and `held` are the places that were given last
-pub record IsAnswered {S : Type 0} (IsTextOf : TextOf) (gives : S → List ℕ → Result ℕ DeviceFault → S → Type 0) (old new : S)
-    (requests : List Request) (held : PlaceList) (written : ℕ) : Type 0 where
-  pub output : TookAnswers IsTextOf gives old new None requests
-  pub places : held ≡ places_after no_places requests
+-- the output took the answers to what was given, `written` bytes, and this is the situation after it
+pub record IsAnswered {S : Type 0} (rules : Rules) (gives : S → List ℕ → Result ℕ DeviceFault → S → Type 0) (first : Situation)
+    (old new : S) (given : List Asked) (held : Situation) (written : ℕ) : Type 0 where
+  pub output : TookAnswers rules gives first held old new None given
   pub count : written ≡ capped_number (length output.text)
 
--- a reader of these bytes is in this standing. Its requests are answered up to those that wait
-pub record HasAnswered {S : Type 0} (IsTextOf : TextOf) (gives : S → List ℕ → Result ℕ DeviceFault → S → Type 0) (n : ℕ)
-    (ended : Bool) (read : List ℕ) (reader : Standing) (waiting : List Request) (old new : S) (held : PlaceList) (written : ℕ) :
-    Type 0 where
-  pub answered : List Request
+-- a reader of these bytes is in this standing. What it gave is answered up to what waits
+pub record HasAnswered {S : Type 0} (rules : Rules) (gives : S → List ℕ → Result ℕ DeviceFault → S → Type 0) (n : ℕ)
+    (ended : Bool) (read : List ℕ) (reader : Standing) (waiting : List Asked) (first : Situation) (old new : S) (held : Situation)
+    (written : ℕ) : Type 0 where
+  pub answered : List Asked
   pub told : (left : List ℕ) → MayCome ended left →
       told_by n (read ++ left) ≡ after_these answered (after_these waiting (ahead reader left))
-  pub is : IsAnswered IsTextOf gives old new answered held written
+  pub is : IsAnswered rules gives first old new answered held written
 
--- a call answers requests: whatever was answered before it, these wait before it and those after it. Or the run ends in its fault
-abbrev pub GoesOn : {S : Type 0} → TextOf → (gives : S → List ℕ → Result ℕ DeviceFault → S → Type 0) → ℕ → (ended : Bool) →
-    (reader reader' : Standing) → (waiting waiting' : List Request) → (output output' : S) → (held held' : PlaceList) →
-    (written written' : ℕ) → Result Unit RunFault → Type 0
-GoesOn {S} IsTextOf gives n ended reader reader' waiting waiting' output output' held held' written written' result =
-    (read : List ℕ) (old : S) → HasAnswered IsTextOf gives n ended read reader waiting old output held written →
-    MatchResult result (λ _. HasAnswered IsTextOf gives n ended read reader' waiting' old output' held' written')
-    (λ fault. Ends IsTextOf gives n ended read old output' fault)
+-- a call answers requests: whatever was answered before it, this waits before it and that after it. Or the run ends in its fault
+abbrev pub GoesOn : {T S : Type 0} → Rules → (gives : S → List ℕ → Result ℕ DeviceFault → S → Type 0) → ℕ → (ended : Bool) →
+    (reader reader' : Standing) → (waiting : List Asked) → (waiting' : T → List Asked) → (output output' : S) →
+    (held held' : Situation) → (written written' : ℕ) → Result T RunFault → Type 0
+GoesOn {T} {S} rules gives n ended reader reader' waiting waiting' output output' held held' written written' result =
+    (read : List ℕ) (first : Situation) (old : S) → HasAnswered rules gives n ended read reader waiting first old output held written →
+    MatchResult result (λ value. HasAnswered rules gives n ended read reader' (waiting' value) first old output' held' written')
+    (λ fault. Ends rules gives n ended read first old output' fault)
+
+-- reads gave these bytes, and then the end if the input has ended
+abbrev pub GaveSoFar : {J : Type 0} → (ended : Bool) → (reads : J → List ℕ → Result ℕ DeviceFault → J → Type 0) → J → List ℕ → J → Type 0
+GaveSoFar false reads start read now = Gave reads start read now
+GaveSoFar true reads start read now = GaveAll reads start read now
+
+-- bytes were read and fed to a reader, which is in this standing. What it gave is answered up to what waits
+pub record HasServed {J S : Type 0} (rules : Rules) (reads : J → List ℕ → Result ℕ DeviceFault → J → Type 0) (start now : J)
+    (gives : S → List ℕ → Result ℕ DeviceFault → S → Type 0) (n : ℕ) (ended : Bool) (reader : Standing) (waiting : List Asked)
+    (first : Situation) (old new : S) (held : Situation) (written : ℕ) : Type 0 where
+  pub read : List ℕ
+  pub gave : GaveSoFar ended reads start read now
+  pub has : HasAnswered rules gives n ended read reader waiting first old new held written
+
+-- what waits after a call: new weights, if it returned any
+abbrev pub weights_waiting : Option WeightList → List Asked
+weights_waiting None = []
+weights_waiting (Some new) = Weights new ∷ []
+
+-- a call serves a stream up to its end, or up to new weights, which wait. Or the run ends in its fault
+abbrev pub ServesOn : {J S : Type 0} → Rules → (reads : J → List ℕ → Result ℕ DeviceFault → J → Type 0) → (now now' : J) →
+    (gives : S → List ℕ → Result ℕ DeviceFault → S → Type 0) → ℕ → (ended ended' : Bool) → (reader reader' : Standing) →
+    (output output' : S) → (held held' : Situation) → (written written' : ℕ) → Result (Option WeightList) RunFault → Type 0
+ServesOn {J} {S} rules reads now now' gives n ended ended' reader reader' output output' held held' written written' result =
+    (start : J) (first : Situation) (old : S) →
+    HasServed rules reads start now gives n ended reader [] first old output held written →
+    MatchResult result
+    (λ given. MatchOption given (Serves {T = Unit} rules gives n first (reading reads start now') old output' (Ok tt))
+    (λ new. HasServed rules reads start now' gives n ended' reader' (Weights new ∷ []) first old output' held' written'))
+    (λ fault. Serves {T = Unit} rules gives n first (reading reads start now') old output' (Err fault))
 
 -- the text of a request by the options, the graph and the hierarchy that answer requests
 abbrev pub IsAnswerBy : Answering → TextOf
 IsAnswerBy by = IsTextOfRequest by.options.now by.checked.now.graph by.checked.now.hierarchy
+
+-- the rules of a run that customizes new weights over this frame, if there is one
+abbrev pub rules_in : Options → Option OrderAndTopology → Rules
+rules_in options frame = rules_of options (is_some frame) (IsCustomizedBy frame)
+
+abbrev pub rules_by : Answering → Rules
+rules_by by = rules_in by.options.now by.checked.now.frame
+
+-- the situation of this graph and hierarchy, after these places
+abbrev pub situation_of : GraphAndHierarchy → PlaceList → Situation
+situation_of checked places = record { graph = checked.graph; hierarchy = checked.hierarchy; places = places }
 
 -- the output took this text after `before` bytes, or the beginning of the text, up to a write that failed. Or it took nothing, for want
 -- of memory
@@ -80,7 +128,18 @@ request_refusal NoMemory = RunFault.Memory
 abbrev pub IsAfter : (ended : Bool) → (gave new : Standing) → Then → Type 0
 IsAfter ended gave new More = gave ≡ new
 IsAfter ended gave new Nothing = (gave ≡ new) × IsUsedUp ended new
+IsAfter ended gave new (NewWeights weights) = gave ≡ new
 IsAfter ended gave new (Stop error) = IsErrorAhead ended gave error
+
+-- the new weights after a batch, if these come after it
+abbrev pub weights_after : Then → List Asked
+weights_after (NewWeights weights) = Weights weights ∷ []
+weights_after _ = []
+
+-- these new weights are on a graph of n nodes
+abbrev pub AreWithin : ℕ → Then → Type 0
+AreWithin n (NewWeights weights) = AreNewWeights n weights
+AreWithin n _ = ⊤
 
 -- a query of these nodes: with its route, or as the run answers queries
 abbrev pub asked_for : Bool → ℕ × ℕ → Request
@@ -109,10 +168,16 @@ abbrev pub places_of : Option Wanted → PlaceList
 places_of None = no_places
 places_of (Some near) = record { nodes = near.targets; count = near.count }
 
+-- the places that are kept from one search to the next, or none
+abbrev pub places_kept : Option PlaceList → PlaceList
+places_kept None = no_places
+places_kept (Some places) = places
+
 -- the searches from these places are in this hierarchy, without a limit, and the hierarchy is right for the graph
 abbrev pub IsSearched : Direction → GraphAndHierarchy → Option Wanted → Type 0
 IsSearched direction checked None = ⊤
 IsSearched direction checked (Some near) = (near.hierarchy ≡ facing direction checked.hierarchy) × (near.limit ≡ None) × IsRight checked
+    × ArePlaces checked.graph.nodes (places_of (Some near))
 
 -- a room serves a graph and a hierarchy, and near rows in this direction
 pub record IsRoomFor (direction : Direction) (checked : GraphAndHierarchy) (room : Room) : Type 0 where

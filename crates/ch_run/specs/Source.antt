@@ -1,6 +1,6 @@
 -- Where the hierarchy of a run comes from, and the promises on a saved one and on an order.
-use Rattle.std.specs.Prelude.{◌≡◌, ◌⊎◌, ℕ, if◌then◌else◌, [], ◌∷◌, Bool, true, false, List, Option, Some, None}
-use Rattle.std.specs.Prelude.{is_some, IfSome, Result, Err, ⊤, take}
+use Rattle.std.specs.Prelude.{◌≡◌, ◌⊎◌, ℕ, if◌then◌else◌, [], ◌∷◌, List, Option, Some, None}
+use Rattle.std.specs.Prelude.{Result, Err, ⊤, take}
 use Rattle.ch_graph.specs.Graph.{Network, IsWithinLimits}
 use Rattle.ch_graph.specs.Saved.{OrderAndLegs}
 use Rattle.ch_read.specs.declared.fault.ReadFault.{ReadFault}
@@ -18,6 +18,8 @@ use Rattle.ch_contract.specs.Like.{IsHierarchyLike, given_count}
 use Rattle.ch_order.specs.Crowded.{HasCrowded}
 use Rattle.ch_text.specs.declared.device.DeviceFault.{DeviceFault}
 use Rattle.ch_run.specs.declared.fault.Which.{Which}
+use Rattle.ch_run.specs.declared.needed.Needed.{Needed}
+use Rattle.ch_run.specs.declared.needed.Needed.TheVariants.{Any, InOrder, Quick}
 use Rattle.ch_run.specs.declared.fault.RunFault.{RunFault}
 use Rattle.ch_job.specs.declared.options.Options.{Options}
 use Rattle.ch_order.specs.Quick.{IsHierarchyAfter}
@@ -86,12 +88,6 @@ abbrev pub AreLoaded : (graph : Reading) → (source : SourceReading) → Networ
 AreLoaded graph NoFile g h = IsWithinLimits g × ReadsGraph graph g × (h ≡ None)
 AreLoaded graph source g h = ComesFromFile graph source g h
 
--- the hierarchy that serves in the place of this one, if there is one. It is the same if what the run writes names its hierarchy. Otherwise
--- each serves that is right for the graph
-abbrev pub IsInPlaceOf : (named : Bool) → Network → (wanted serving : Option LevelsAndLegs) → Type 0
-IsInPlaceOf true g wanted serving = serving ≡ wanted
-IsInPlaceOf false g wanted serving = (is_some serving ≡ is_some wanted) × IfSome serving (IsKept g)
-
 -- the inputs were loaded, and P holds of the graph and of the hierarchy that was saved or built like an order, if there is one
 abbrev pub WithLoaded : Reading → SourceReading → (Network → Option LevelsAndLegs → Type 0) → Type 0
 WithLoaded graph source P = (g : Network) × (h : Option LevelsAndLegs) × AreLoaded graph source g h × P g h
@@ -100,30 +96,35 @@ WithLoaded graph source P = (g : Network) × (h : Option LevelsAndLegs) × AreLo
 abbrev pub AcceptsLoaded : Reading → SourceReading → Type 0
 AcceptsLoaded graph source = WithLoaded graph source (λ _ _. ⊤)
 
--- the hierarchy that serves: the one that was loaded, if there is one. Otherwise it is the contraction hierarchy of the graph in this
--- order, with at most this many legs in a witness
-abbrev pub IsServing : OrderBy → ℕ → Network → Option LevelsAndLegs → LevelsAndLegs → Type 0
-IsServing by hops g None K = IsHierarchyBy by g hops K
-IsServing by hops g (Some H) K = K ≡ H
+-- the hierarchy serves for what a run writes, if this one was loaded or none. If what is written names no hierarchy, each serves that is
+-- right for the graph. Otherwise it is the one that was loaded, if there is one. If not, it is the contraction hierarchy of the graph in
+-- this order, with at most this many legs in a witness. Or it is built quickly: its nodes are contracted in any order
+abbrev pub IsServing : Needed → ℕ → Network → Option LevelsAndLegs → LevelsAndLegs → Type 0
+IsServing Any hops g h K = IsKept g K
+IsServing (InOrder by) hops g None K = IsHierarchyBy by g hops K
+IsServing Quick hops g None K = IsHierarchyAfter g hops [] K × IsKept g K
+IsServing _ hops g (Some H) K = K ≡ H
 
--- the order in which a run builds the hierarchy that answers requests: with routes that of the options, and without them depth
-abbrev pub order_built : Options → OrderBy
-order_built options = if writes_routes options then options.order else Depth
+-- the hierarchy that answers to queries need: with routes that in the order of the options
+abbrev pub needed_by_queries : Options → Needed
+needed_by_queries options = if writes_routes options then InOrder options.order else Any
 
--- a hierarchy of a graph that is built to be saved, with at most this many legs in a witness. It is that of this order. If it is built
--- quickly, its nodes are contracted in any order, and it is right for the graph
-abbrev pub IsBuiltToSave : (quick : Bool) → OrderBy → ℕ → Network → LevelsAndLegs → Type 0
-IsBuiltToSave false by hops g H = IsHierarchyBy by g hops H
-IsBuiltToSave true by hops g H = IsHierarchyAfter g hops [] H × IsKept g H
+-- the hierarchy that answers to requests need, each of which may ask for a route: in the order of the options, or by depth if they ask
+-- for no routes
+abbrev pub needed_by_requests : Options → Needed
+needed_by_requests options = InOrder (if writes_routes options then options.order else Depth)
 
--- a hierarchy that is saved with these options: the one that was loaded, if there is one, or one that is built
+-- the hierarchy that is saved: in the order of the options, unless it is built quickly
+abbrev pub needed_to_save : Options → Needed
+needed_to_save options = if options.quick then Quick else InOrder options.order
+
+-- a hierarchy that is saved with these options
 abbrev pub IsToSave : Options → Network → Option LevelsAndLegs → LevelsAndLegs → Type 0
-IsToSave options g None H = IsBuiltToSave options.quick options.order options.hops.number g H
-IsToSave options g (Some K) H = H ≡ K
+IsToSave options g h H = IsServing (needed_to_save options) options.hops.number g h H
 
 -- the hierarchy that routes go by, with these options
 abbrev pub IsOfRoutes : Options → Network → Option LevelsAndLegs → LevelsAndLegs → Type 0
-IsOfRoutes options g h = IsServing options.order options.hops.number g h
+IsOfRoutes options g h = IsServing (InOrder options.order) options.hops.number g h
 
 -- the input was read to its end and has this fault as a saved hierarchy on a graph with this many nodes
 abbrev pub IsSavedRefused : Reading → ℕ → ReadFault → Type 0

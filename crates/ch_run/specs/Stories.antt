@@ -8,10 +8,10 @@ use Rattle.ch_text.specs.TableText.{IsTableText}
 use Rattle.ch_run.specs.declared.fault.Which.{Which}
 use Rattle.ch_run.specs.declared.fault.RunFault.{RunFault}
 use Rattle.ch_job.specs.declared.options.Options.{Options}
-use Rattle.ch_run.specs.Ask.{IsRequestText, Serves}
+use Rattle.ch_run.specs.Ask.{ServesFrom}
 use Rattle.ch_run.specs.NearRun.{sources_among}
 use Rattle.ch_run.specs.Run.{Reading, ReadingIf, SourceReading}
-use Rattle.ch_run.specs.Source.{IsOfRoutes, IsServing, IsToSave, order_built}
+use Rattle.ch_run.specs.Source.{IsOfRoutes, IsToSave}
 use Rattle.ch_run.specs.Story.{Cells, IsRefused, Loads, Reads, ReadsIf, Writes}
 use Rattle.ch_run.specs.Text.{IsNearTextFor, IsSaveTextOf, IsTextBy, writes_routes}
 
@@ -63,4 +63,4 @@ abbrev pub RunsAsk : {T O : Type 0} → Options → (graph : Reading) → (sourc
 RunsAsk options graph source requests same_source same_requests takes old new result =
     Loads graph source same_source result (same_requests × (new ≡ old)) (λ g h.
     ((result ≡ Err RunFault.Memory) × same_requests × (new ≡ old))
-    ⊎ Serves (IsRequestText options g (IsServing (order_built options) options.hops.number g h)) takes g.nodes requests old new result)
+    ⊎ ServesFrom options source g h requests takes old new result)

@@ -1,6 +1,6 @@
 //! Why a run gave no answer.
 
-ghost use Rattle.std.specs.Prelude.{◌≡◌, ◌≤◌, ◌++◌, Some, codes, length};
+ghost use Rattle.std.specs.Prelude.{◌≡◌, ◌+◌, ◌≤◌, ◌++◌, Some, codes, decimal, length};
 ghost use Rattle.ch_hierarchy.specs.FaultText.{fault_text as check_fault_text};
 ghost use Rattle.ch_read.specs.Text.{kind_text};
 ghost use Rattle.ch_run.specs.Fault.{fault_text, fault_words, input_name, judged, read_heading, status_of};
@@ -92,6 +92,10 @@ pub enum RunFault {
     Cells,
     /// The table that begins at this line of the requests has more than 2^22 cells.
     CellsAt(u64),
+    /// The new weight on this line of the requests is for no arc of the graph.
+    NoArcAt(u64),
+    /// New weights begin at this line of the requests, but the hierarchy is not customized.
+    FixedAt(u64),
     /// There was not enough memory.
     Memory,
     /// This input couldn't be opened or read.
@@ -118,6 +122,8 @@ impl fmt::Display for RunFault {
             }
             RunFault::Cells => f.write_str("too many cells"),
             RunFault::CellsAt(line) => write!(f, "request line {line}: too many cells"),
+            RunFault::NoArcAt(line) => write!(f, "request line {line}: no such arc"),
+            RunFault::FixedAt(line) => write!(f, "request line {line}: needs --customizable"),
             RunFault::Memory => f.write_str("out of memory"),
             RunFault::Device(which) => write!(f, "cannot read {which}"),
             RunFault::Write(count) => write!(f, "cannot write after {count} bytes"),
@@ -182,11 +188,9 @@ fn words_of(fault: &RunFault) -> ShortText
             line.prepend_slice(which.heading().as_bytes());
         }
         RunFault::Cells => line.prepend_slice(b"too many cells"),
-        RunFault::CellsAt(place) => {
-            line.prepend_slice(b": too many cells");
-            line.prepend_number(place);
-            line.prepend_slice(b"request line ");
-        }
+        RunFault::CellsAt(place) => prepend_at(&mut line, place, b": too many cells"),
+        RunFault::NoArcAt(place) => prepend_at(&mut line, place, b": no such arc"),
+        RunFault::FixedAt(place) => prepend_at(&mut line, place, b": needs --customizable"),
         RunFault::Memory => line.prepend_slice(b"out of memory"),
         RunFault::Device(which) => {
             line.prepend_slice(which.name().as_bytes());
@@ -208,6 +212,17 @@ fn words_of(fault: &RunFault) -> ShortText
         }
     }
     line
+}
+
+/// Puts the words for a fault at a line of the requests in front. `words` come after the number of the line.
+fn prepend_at(text: &mut ShortText, line: u64, words: &[u8])
+    requires { length text.old + length words.now ≤ 32 }
+    ensures text { text.new ≡ (codes "request line " ++ decimal line ++ words.now) ++ text.old }
+    ensures length { length text.new ≤ length text.old + length words.now + 33 }
+{
+    text.prepend_slice(words);
+    text.prepend_number(line);
+    text.prepend_slice(b"request line ");
 }
 
 /// Returns the line of a fault, with its line feed. It takes no memory, so it can report a lack of
@@ -251,7 +266,9 @@ pub fn status(fault: &RunFault) -> u8
         | RunFault::Order
         | RunFault::Crowded(_)
         | RunFault::Cells
-        | RunFault::CellsAt(_) => 1,
+        | RunFault::CellsAt(_)
+        | RunFault::NoArcAt(_)
+        | RunFault::FixedAt(_) => 1,
         RunFault::Memory | RunFault::Device(_) | RunFault::Write(_) => 3,
     }
 }

@@ -15,18 +15,20 @@
 //!   [`run_near`], which writes the nearest targets of each source of a list, or of each node of the
 //!   graph ([`Sources`]).
 //! - [`run_ask`] answers requests as they come. Before each read it answers all requests that are whole
-//!   in the bytes that were read.
+//!   in the bytes that were read. Each answer is of the graph with the weights as they were set before it.
 //!
 //! It passes on the devices of ch_text, which give the inputs and take the text.
 #![tactic(auto)]
 
 mod building;
 mod fault;
+mod frame;
 pub mod laws;
-mod orders;
+mod needed;
 mod plan;
 mod routes;
 mod run;
+mod weighing;
 
 pub use ch_job::{Direction, HopBound, Options, OrderBy, Percent, Source, Sources};
 pub use ch_text::{

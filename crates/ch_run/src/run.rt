@@ -6,6 +6,7 @@ mod batch;
 mod dist;
 mod first;
 mod inputs;
+mod keeping;
 mod lines;
 mod loading;
 mod near;

@@ -14,6 +14,4 @@ mod sweep;
 
 pub use parents::{tree_for, tree_of};
 pub use routes::route;
-pub use scratch::{TreeScratch, distance};
-pub use spaces::{ranked_space, ranked_spaces};
-pub use sweep::{NEVER, up_costs};
+pub use scratch::{TreeScratch, distance, ranked_space};

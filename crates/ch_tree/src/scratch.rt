@@ -2,11 +2,14 @@
 ghost use Rattle.std.specs.Prelude.{◌≡◌, ◌<◌, IfOk};
 ghost use Rattle.ch_hierarchy.specs.Hierarchy.{nodes_of};
 ghost use Rattle.ch_query.specs.Distance.{IsKeptForSome, IsDistanceBy, IsLeastWeight};
+ghost use Rattle.ch_query.specs.SearchSpace.{IsRankedSpace};
 ghost use Rattle.ch_tree.specs.Tree.{IsTree};
 
 use crate::query::distance_between;
+use crate::spaces::space_with;
 use crate::sweep::NEVER;
 use ch_hierarchy::Hierarchy;
+use ch_query::Start;
 use std::alloc::{AllocError, Global};
 use std::marker::Model;
 
@@ -69,4 +72,29 @@ pub fn distance(
 {
     let TreeScratch { ups, downs } = scratch;
     distance_between(hierarchy, parents, ups, downs, start, end)
+}
+
+/// Returns the search space of this start: the ranks of the ancestors that it reaches by legs to higher nodes in this
+/// direction, with the least weights of paths, but for those to which a leg from a higher node shows a lighter way. The legs of
+/// an ancestor that weighs more than the limit are left out. Such spaces serve as those of
+/// [`ranked_spaces`](ch_query::ranked_spaces).
+///
+/// # Errors
+/// `AllocError` if there is no memory for the list.
+pub fn ranked_space(
+    alloc: Global,
+    hierarchy: &Hierarchy,
+    parents: &[u32],
+    scratch: &mut TreeScratch,
+    start: Start,
+) -> Result<Vec<(u32, u64)>, AllocError>
+    requires kept { IsKeptForSome hierarchy.now }
+    requires tree { IsTree hierarchy.now parents.now }
+    requires scratch { scratch.old ≡ nodes_of hierarchy.now }
+    requires source { start.source < nodes_of hierarchy.now }
+    ensures space { IfOk result (λ list. IsRankedSpace hierarchy.now start.side start.within start.source list.items) }
+    ensures scratch { scratch.new ≡ scratch.old }
+{
+    let TreeScratch { ups, .. } = scratch;
+    space_with(alloc, hierarchy, parents, ups, start)
 }

@@ -1,11 +1,11 @@
 //! Search spaces by passes to the root, for tables and near rows.
-ghost use Rattle.std.specs.Prelude.{◌≡◌, ◌+◌, ◌<◌, ◌≤◌, [], All, IfOk, OnOk, length};
-ghost use Rattle.std.specs.List.{AllZip};
-ghost use Rattle.ch_hierarchy.specs.Hierarchy.{nodes_of};
+ghost use Rattle.std.specs.Prelude.{◌≡◌, ◌+◌, ◌<◌, ◌≤◌, [], IfOk, OnOk, length, true};
+ghost use Rattle.ch_hierarchy.specs.Hierarchy.{nodes_of, IsLevelled};
+ghost use Rattle.ch_query.specs.Distance.{IsKeptForSome};
 ghost use Rattle.ch_query.specs.Limits.{IsMost};
 ghost use Rattle.ch_query.specs.SearchSpace.{IsRankedSpace};
-ghost use Rattle.ch_tree.specs.Spaces.{AreGathered};
-ghost use Rattle.ch_tree.specs.Tree.{IsTree, IsClean, AreFalling};
+ghost use Rattle.ch_tree.specs.Spaces.{AreGathered, IsBeatenAt};
+ghost use Rattle.ch_tree.specs.Tree.{IsTree, IsClean, AreFalling, AreSmall};
 ghost use Rattle.ch_graph.specs.declared.limits.TheConstants.{MOST_WEIGHT};
 
 use crate::query::clear;
@@ -25,8 +25,30 @@ fn most_of(within: Option<u64>) -> u64
     }
 }
 
-/// Appends the rank and the weight of each place from this one up that weighs at most `most`, to an empty list.
+/// Whether a leg from a higher node shows a lighter way to the node of this rank. A search would stall there ("stall on demand",
+/// Geisberger, Sanders, Schultes and Delling 2008), and no least path leads over the node.
+#[inline]
+fn is_beaten(hierarchy: &Hierarchy, side: Side, rank: u32, costs: &[u64]) -> bool
+    requires rank { rank < nodes_of hierarchy.now }
+    requires sizes { length costs.now ≡ nodes_of hierarchy.now }
+    requires small { AreSmall costs.now }
+    ensures levelled { IsLevelled hierarchy.now }
+    ensures beaten { result ≡ true → IsBeatenAt hierarchy.now side costs.now rank }
+{
+    let weight = costs[rank as usize];
+    for leg in hierarchy.ranked_legs(side.other(), rank) {
+        if costs[leg.rank as usize] + leg.weight < weight {
+            return true;
+        }
+    }
+    false
+}
+
+/// Appends the rank and the weight of each place from this one up that weighs at most `most`, to an empty list. A place to which
+/// a leg from a higher one shows a lighter way is left out.
 fn gather(
+    hierarchy: &Hierarchy,
+    side: Side,
     parents: &[u32],
     first: u32,
     most: u64,
@@ -34,36 +56,37 @@ fn gather(
     found: &mut Vec<(u32, u64)>,
 ) -> Result<(), AllocError>
     requires falls { AreFalling parents.now }
-    requires sizes { length parents.now ≡ length costs.now + 1 }
+    requires sizes { (length parents.now ≡ length costs.now + 1) × (length costs.now ≡ nodes_of hierarchy.now) }
+    requires small { AreSmall costs.now }
     requires first { first ≤ length costs.now }
     requires empty { found.old.items ≡ [] }
-    ensures { OnOk result (AreGathered parents.now first most costs.now found.new.items) }
+    ensures { OnOk result (AreGathered (IsBeatenAt hierarchy.now side costs.now) parents.now first most costs.now found.new.items) }
 {
     let mut place = first;
     while place > 0 {
-        let weight = costs[place as usize - 1];
-        if weight <= most {
-            found.push((place - 1, weight))?;
+        let rank = place - 1;
+        let weight = costs[rank as usize];
+        if weight <= most && !is_beaten(hierarchy, side, rank, costs) {
+            found.push((rank, weight))?;
         }
         place = parents[place as usize];
     }
     Ok(())
 }
 
-/// Returns the search space of this start: the ranks of the ancestors that it reaches by legs to higher nodes in this
-/// direction, with the least weights of paths. The legs of an ancestor that weighs more than the limit are left out. They
-/// serve as those of [`ranked_spaces`](ch_query::ranked_spaces). The
-/// list of costs has `NEVER` for each node, before and after.
+/// Returns the search space of this start, with these costs as scratch space, which have `NEVER` for each node before and after.
+/// See [`ranked_space`](crate::ranked_space).
 ///
 /// # Errors
 /// `AllocError` if there is no memory for the list.
-pub fn ranked_space(
+pub(crate) fn space_with(
     alloc: Global,
     hierarchy: &Hierarchy,
     parents: &[u32],
     costs: &mut Vec<u64>,
     start: Start,
 ) -> Result<Vec<(u32, u64)>, AllocError>
+    requires kept { IsKeptForSome hierarchy.now }
     requires tree { IsTree hierarchy.now parents.now }
     requires clean { IsClean (nodes_of hierarchy.now) costs.old.items }
     requires source { start.source < nodes_of hierarchy.now }
@@ -81,40 +104,16 @@ pub fn ranked_space(
         costs,
     );
     let mut found = Vec::new(alloc);
-    let gathered = gather(parents, first, most, costs.as_slice(), &mut found);
+    let gathered = gather(
+        hierarchy,
+        start.side,
+        parents,
+        first,
+        most,
+        costs.as_slice(),
+        &mut found,
+    );
     clear(parents, first, costs);
     gathered?;
     Ok(found)
-}
-
-/// Returns the search space of each of these nodes, in their order.
-///
-/// # Errors
-/// `AllocError` if there is no memory for the lists.
-pub fn ranked_spaces(
-    alloc: Global,
-    hierarchy: &Hierarchy,
-    parents: &[u32],
-    costs: &mut Vec<u64>,
-    nodes: &[u32],
-    side: Side,
-    within: Option<u64>,
-) -> Result<Vec<Vec<(u32, u64)>>, AllocError>
-    requires tree { IsTree hierarchy.now parents.now }
-    requires clean { IsClean (nodes_of hierarchy.now) costs.old.items }
-    requires nodes { All (λ x. x < nodes_of hierarchy.now) nodes.now }
-    ensures spaces { IfOk result (λ spaces. AllZip (λ node space. IsRankedSpace hierarchy.now side within node space.items) nodes.now spaces.items) }
-    ensures clean { IsClean (nodes_of hierarchy.now) costs.new.items }
-{
-    let mut spaces = Vec::with_capacity(alloc, nodes.len())?;
-    for node in nodes {
-        let start = Start {
-            source: *node,
-            side,
-            within,
-        };
-        let space = ranked_space(alloc, hierarchy, parents, costs, start)?;
-        spaces.push_reserved(space);
-    }
-    Ok(spaces)
 }

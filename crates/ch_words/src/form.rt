@@ -23,7 +23,8 @@ const REQUESTS: &str = "Requests, one a line:\n  \
     r S T      the same, and the route\n  \
     t K L [R]  a table: K lines `s V` follow with the sources, and then L with the targets\n  \
     p L K      places: L lines `s V` follow. Each later `n` has the K nearest, or all if K is 0\n  \
-    n S [R]    the places nearest to node S, with their distances\n\
+    n S [R]    the places nearest to node S, with their distances\n  \
+    w K        new weights, with --customizable: K lines `a U V W` follow. From here on each arc from U to V weighs W\n\
     R leaves out distances above R. A route follows the saved hierarchy, or the one that is built: in \
     depth order, unless --routes is given without --deep.\n\n\
     Example: chtab ask --saved roads.ch roads.gr <requests.txt";

@@ -38,14 +38,9 @@ def current(seconds: float | None) -> Deadline:
     return CALL.deadline or Deadline(seconds)
 
 
-@contextlib.contextmanager
-def of_call(seconds: float | None) -> Iterator[Deadline]:
+def of_call(seconds: float | None) -> contextlib.AbstractContextManager[Deadline]:
     """Gives a call of so many seconds its deadline, unless it is a part of another call."""
-    if CALL.deadline is not None:
-        yield CALL.deadline
-        return
-    with taken(Deadline(seconds)) as deadline:
-        yield deadline
+    return taken(current(seconds))
 
 
 @contextlib.contextmanager

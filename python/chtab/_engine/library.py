@@ -104,6 +104,7 @@ CALLS = {
     "chtab_near_places": (HANDLE, NUMBER_32, *ARRAY, NUMBER_64, NUMBER_32),
     "chtab_near_sweep": (HANDLE,),
     "chtab_near_rows": (HANDLE, *ARRAY, COUNT, *ARRAY, *ARRAY, *ARRAY),
+    "chtab_kept_near_sums": (HANDLE, *ARRAY, COUNT, *ARRAY, *ARRAY, *ARRAY, *ARRAY),
     "chtab_near_sums": (HANDLE, *ARRAY, *ARRAY, *ARRAY, COUNT, *ARRAY),
     "chtab_near_table": (HANDLE, *ARRAY, COUNT, *ARRAY),
 }
@@ -450,17 +451,25 @@ class Handle(Opened):
         """Makes the rows of all nodes to the kept places, and keeps these rows too."""
         see_that_done(self.ask(self.calls.chtab_near_sweep))
 
-    def near_rows(self, sources: Nodes, pairs: int) -> tuple[Integers, Integers, Integers]:
-        """The rows of the first sources that fit into so many pairs: ends, weights, places."""
+    def near_rows(
+        self, sources: Nodes, pairs: int, values: Unsigned | None = None,
+    ) -> tuple[Integers, Integers, Integers, Unsigned | None]:
+        """The rows of the first sources that fit into so many pairs: ends, weights, places, and the
+        sums of values along the routes of the pairs, if there are values, which it keeps."""
         rows, ends = ctypes.c_uint64(), numpy.empty(len(sources), numpy.int64)
-        weights, places = numpy.empty(pairs, numpy.int64), numpy.empty(pairs, NODE)
-        status = self.ask(
-            self.calls.chtab_near_rows, column(sources, NODE), ctypes.byref(rows),
-            written(ends, numpy.int64), written(weights, numpy.int64), written(places, NODE))
+        kinds = (numpy.int64, NODE) if values is None else (numpy.int64, NODE, NUMBER)
+        columns = [numpy.empty(pairs, kind) for kind in kinds]
+        out = (written(each, each.dtype) for each in (ends, *columns))
+        call = self.calls.chtab_near_rows if values is None else self.calls.chtab_kept_near_sums
+        with self.lock:
+            if values is not None:
+                self.keep_values(values)
+            status = self.ask(call, column(sources, NODE), ctypes.byref(rows), *out)
         see_that_done(OK if status == TOO_SHORT else status)
         ends = ends[:rows.value]
         end = ends[-1] if len(ends) else 0
-        return ends, weights[:end], places[:end].astype(numpy.int64)
+        weights, places, *sums = (each[:end] for each in columns)
+        return ends, weights, places.astype(numpy.int64), sums[0] if sums else None
 
     def near_sums(self, sources: Nodes, values: Unsigned, limits: Unsigned) -> Unsigned:
         """For each source and limit the sum of the values in its row (n, m), below 2^64."""

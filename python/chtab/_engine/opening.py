@@ -102,10 +102,8 @@ def library_of(program: str, choice: Path | bool | None) -> str:
         see_to(program)
         found = library.beside(program)
     if found is None:
-        why = (
-            f"there is no {library.NAME} beside the program {program}, or it is older than the "
-            "sources")
-        raise ChtabError(f"{why}; in a checkout `packaging/library` makes it, by gcc")
+        text = f"there is no {library.NAME} beside the program {program}, or it is older than the"
+        raise ChtabError(f"{text} sources; in a checkout `packaging/library` makes it, by gcc")
     return found
 
 

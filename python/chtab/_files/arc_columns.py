@@ -73,9 +73,8 @@ class Arcs:
 
 def arcs_of(given: Columns) -> Arcs:
     """Makes arcs from columns. Whatever the program would refuse is refused here, with its row."""
-    sources, targets = (
-        columns.column_labels_in(name, column)
-        for name, column in zip(given.names, (given.sources, given.targets)))
+    ends = zip(given.names, (given.sources, given.targets))
+    sources, targets = (columns.column_labels_in(*end) for end in ends)
     weights, factor, scale, unit = weights_in(given)
     columns.see_that_long(given.names, [sources, targets, weights])
     labels, (tails, heads) = nodes_of(given, sources, targets)

@@ -179,8 +179,7 @@ def whole_as_integer(value: Any) -> Any:
 
 def no_label(name: str, array: NDArray[Any]) -> DataFault:
     """The fault of the first NaN, the first value that is not whole, or the first value."""
-    is_float = array.dtype.kind == "f"
-    marks = (numpy.isnan(array), ~are_whole(array)) if is_float else ()
+    marks = (numpy.isnan(array), ~are_whole(array)) if array.dtype.kind == "f" else ()
     place = next((place for place in map(first_of, marks) if place is not None), 0)
     return refused(name, row_of(array, place), f"{quoted(array.reshape(-1)[place])} {NO_LABEL}")
 

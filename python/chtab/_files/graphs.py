@@ -228,9 +228,8 @@ def read_coordinates(source: Source) -> Coordinates:
 def read_turns(source: Source) -> Coordinates:
     """What a file of places (`.co`) says about restricted turns, without its places."""
     with reading(source, "rb") as file:
-        return Coordinates(
-            array.array("d"), array.array("d"),
-            comments_of(itertools.takewhile(lambda line: line[:1] != b"v", file)))
+        comments = comments_of(itertools.takewhile(lambda line: line[:1] != b"v", file))
+        return Coordinates(array.array("d"), array.array("d"), comments)
 
 
 def scaled(place: int, weight: float, scale: float) -> int:
@@ -294,9 +293,8 @@ def write_coordinates(
             file,
             (f"Node {copy} is node {node}, as some turns come to it." for copy, node in copies))
         file.write(f"p aux sp co {len(places)}\n")
-        write_rows(
-            file, "v %d %d %d\n",
-            ((node, round(x * 1e6), round(y * 1e6)) for node, (x, y) in enumerate(places, 1)))
+        rows = ((node, round(x * 1e6), round(y * 1e6)) for node, (x, y) in enumerate(places, 1))
+        write_rows(file, "v %d %d %d\n", rows)
 
 
 def write_point_columns(

@@ -104,8 +104,7 @@ class OnMap:
         return explored(features, self.shown_by, style)
 
     def _repr_html_(self) -> str:
-        rows = [each["properties"] for each in self._shown(SHOWN)]
-        return table_text(repr(self), rows)
+        return table_text(repr(self), [each["properties"] for each in self._shown(SHOWN)])
 
     def _shown(self, count: int) -> list:
         """The first features."""

@@ -160,7 +160,7 @@ def values(
 
 def are_swept(question: Question, nodes: int) -> bool:
     """Whether one thread makes the rows of all nodes at once, in less time than several search."""
-    is_wide = question.height(nodes) >= SHARE * nodes
+    is_wide = question.values is None and question.height(nodes) >= SHARE * nodes
     return is_wide and nodes * question.most() <= max(SWEPT, FEW * nodes)
 
 
@@ -184,6 +184,6 @@ def rows(
     for block, found in values(engine, question, make, workers, progress):
         parts.setdefault(block.row, []).append((block.column, found))
     if not parts:
-        return near_rows.empty(question.height(engine.nodes))
+        return near_rows.empty(question.height(engine.nodes), question.values is not None)
     of_rows = (parts.pop(row) for row in sorted(parts))
     return near_rows.below([near_rows.beside(own, question.count) for own in of_rows])

@@ -33,6 +33,8 @@ class Near:
         The positions of the targets in the list `targets`, counted from 0.
     weights : array of int64 or float64, shape (p,)
         Their weights, in the network's `unit`.
+    sums : array of uint64, shape (p,), or None
+        The sums of the values along their routes, if values were given.
     sources, targets : array of labels, shape (n,) and (l,)
         The nodes of the question.
 
@@ -43,12 +45,9 @@ class Near:
     (array([2, 3]), array([4, 0]))
     """
 
-    def __init__(
-        self, rows: Rows, sources: NDArray, targets: NDArray, weights: NDArray | None = None
-    ) -> None:
-        self.offsets, self.places = rows.offsets, rows.places
-        self.weights = rows.weights if weights is None else weights
-        self.sources, self.targets = sources, targets
+    def __init__(self, rows: Rows, sources: NDArray, targets: NDArray, weights: NDArray) -> None:
+        self.offsets, self.places, self.sums = rows.offsets, rows.places, rows.sums
+        self.sources, self.targets, self.weights = sources, targets, weights
 
     def __len__(self) -> int:
         return len(self.sources)
@@ -83,7 +82,8 @@ class Near:
         Returns
         -------
         pandas.DataFrame
-            A row for each target of a source, with the columns source, target, place and weight.
+            A row for each target of a source, with the columns source, target, place and weight,
+            and the column sum if values were given.
 
         Raises
         ------
@@ -92,9 +92,9 @@ class Near:
         """
         import pandas
 
-        sources, targets = self.sources[self.owners()], self.targets[self.places]
-        return pandas.DataFrame(
-            {"source": sources, "target": targets, "place": self.places, "weight": self.weights})
+        columns = {"source": self.sources[self.owners()], "target": self.targets[self.places]}
+        columns |= {"place": self.places, "weight": self.weights}
+        return pandas.DataFrame(columns if self.sums is None else columns | {"sum": self.sums})
 
     def to_sparse(self) -> scipy.sparse.csr_matrix:
         """Returns the same as a sparse matrix.

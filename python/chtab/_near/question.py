@@ -44,6 +44,8 @@ class Question:
     within: int | None = None
     # Whether weights are those from the targets to the sources.
     is_from: bool = False
+    # A value for each line of the graph, whose sums along routes are asked for too.
+    values: Any = None
 
     def height(self, nodes: int) -> int:
         """How many rows the answer has, on a network with this many nodes."""
@@ -105,10 +107,14 @@ class NearRows:
             self.sources = library.nodes_of(question.sources, nodes)
         count = library.ALL if question.count is None else min(question.count, library.ALL)
         limit = library.NO_LIMIT if question.within is None else question.within
-        words = targets, limit, count, question.is_from
-        interruptible(len(targets), handle.keep_places, *words)
+        # A worker of Dask may have got values at any address.
+        given = question.values
+        self.values = None if given is None else numpy.require(given, numpy.uint64, "A")
+        interruptible(len(targets), handle.keep_places, targets, limit, count, question.is_from)
         deadline.check()
-        self.together = PAIRS if self.is_swept() else TOGETHER if deadline.is_open else SHORT
+        # Sums take searches beside the rows that are swept.
+        is_copied = self.is_swept() and question.values is None
+        self.together = PAIRS if is_copied else TOGETHER if deadline.is_open else SHORT
 
     def is_swept(self) -> bool:
         """Whether the rows of all nodes are made at once."""
@@ -127,7 +133,7 @@ class NearRows:
         if self.nodes * most <= enough:
             return True
         some = numpy.linspace(0, self.nodes - 1, SAMPLE, dtype=numpy.uint32)
-        ends, _, _ = self.handle.near_rows(some, max(most, PAIRS))
+        ends, *_ = self.handle.near_rows(some, max(most, PAIRS))
         return self.nodes * int(ends[-1]) <= enough * len(ends)
 
     def portions(self) -> Iterator[tuple[int, Rows]]:
@@ -137,10 +143,13 @@ class NearRows:
             self.deadline.check()
             some = self.sources[start:start + self.together]
             room = min(len(some) * most, max(most, PAIRS))
-            ends, weights, places = interruptible(len(some), self.handle.near_rows, some, room)
+            # For sums, a place that is near for the first time is searched from.
+            searches = len(some) if self.values is None else len(some) + len(self.question.targets)
+            ends, weights, places, sums = interruptible(
+                searches, self.handle.near_rows, some, room, self.values)
             if not len(ends):
                 raise mismatch()
-            yield start, Rows(numpy.append(0, ends), places, weights)
+            yield start, Rows(numpy.append(0, ends), places, weights, sums)
             start += len(ends)
 
     def sums(self, values: NDArray[numpy.uint64], limits: Sequence[int]) -> Floats:

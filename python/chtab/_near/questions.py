@@ -10,7 +10,7 @@ import numpy
 from chtab._files import measures
 from chtab._near import blocks, sums
 from chtab._near.question import NearQuestion, Question, SpotQuestion
-from chtab._roads.pairs import nodes_in
+from chtab._roads.pairs import nodes_in, whole_values
 from chtab._roads.snapping import Spots
 
 if TYPE_CHECKING:
@@ -37,20 +37,23 @@ class Asked:
         """The files of the network."""
         return self.trips.layers
 
-    def near(self, count: int | None, within: int | None) -> Question:
+    def near(self, count: int | None, within: int | None, values: Any = None) -> Question:
         """The question to the library, where trips end at other nodes with these."""
         most = max(1, len(self.targets))
         count = None if count is None else min(blocks.count_in("count", count), most)
         sources, targets, layers = self.sources, self.targets, self.layers
         if isinstance(sources, Spots) or isinstance(targets, Spots):
+            if values is not None:
+                raise ValueError("values are summed along routes of nodes, and not of spots")
             nodes = layers.all_nodes if sources is None else sources
             ends = self.spots_of(nodes, 0), self.spots_of(targets, 1)
-            return SpotQuestion(*ends, count, within, self.is_from, self.trips)
+            return SpotQuestion(*ends, count, within, self.is_from, trips=self.trips)
         if layers.has_turns and self.is_from:
             sources = None if sources is None else layers.ends_of(sources)
         elif layers.has_turns:
             targets = layers.ends_of(targets)
-        return NearQuestion(sources, targets, count, within, self.is_from)
+        values = None if values is None else whole_values(layers, values)
+        return NearQuestion(sources, targets, count, within, self.is_from, values)
 
     def spots_of(self, nodes: Integers | Spots, side: int) -> Spots:
         """Spots at nodes, or spots as they are. Nodes of both sides are on no road together."""

@@ -3,22 +3,25 @@ source in order of weight and place."""
 from __future__ import annotations
 
 from collections.abc import Sequence
-from dataclasses import dataclass
-from typing import TYPE_CHECKING
+from dataclasses import dataclass, replace
+from typing import TYPE_CHECKING, Any
 
 import numpy
 
 if TYPE_CHECKING:
+    from numpy.typing import NDArray
     from chtab.typing import Integers
 
 
 @dataclass(frozen=True)
 class Rows:
-    """Row i has the places and weights `offsets[i]` to `offsets[i + 1] - 1`, all int64."""
+    """Row i has the places and weights `offsets[i]` to `offsets[i + 1] - 1`, all int64, and the
+    sums along their routes, if these are asked for."""
 
     offsets: Integers
     places: Integers
     weights: Integers
+    sums: NDArray[Any] | None = None
 
     def __len__(self) -> int:
         return len(self.offsets) - 1
@@ -35,22 +38,30 @@ class Rows:
         """The rank of each pair in its row, from 0 on."""
         return numpy.arange(len(self.places)) - numpy.repeat(self.offsets[:-1], self.counts())
 
+    def chosen(self, counts: Integers, pairs: NDArray[Any]) -> Rows:
+        """Rows, each with this many pairs, of these pairs."""
+        sums = None if self.sums is None else self.sums[pairs]
+        return rows_of(counts, self.places[pairs], self.weights[pairs], sums)
 
-def rows_of(counts: Integers, places: Integers, weights: Integers) -> Rows:
+
+def rows_of(counts: Integers, places: Integers, weights: Integers, sums: Any = None) -> Rows:
     """Makes rows, each with this many pairs."""
-    return Rows(numpy.append(0, numpy.cumsum(counts)), places, weights)
+    return Rows(numpy.append(0, numpy.cumsum(counts)), places, weights, sums)
 
 
-def empty(count: int) -> Rows:
+def empty(count: int, has_sums: bool = False) -> Rows:
     """So many rows without pairs."""
-    return rows_of(numpy.zeros(count, numpy.int64), *numpy.zeros((2, 0), numpy.int64))
+    nothing = numpy.zeros(0, numpy.int64)
+    sums = nothing.view(numpy.uint64) if has_sums else None
+    return Rows(numpy.zeros(count + 1, numpy.int64), nothing, nothing, sums)
 
 
 def below(parts: Sequence[Rows]) -> Rows:
     """Joins rows of different sources, one below the other."""
     if not parts:
         return empty(0)
-    columns = ([getattr(part, name) for part in parts] for name in ("places", "weights"))
+    names = ("places", "weights") if parts[0].sums is None else ("places", "weights", "sums")
+    columns = ([getattr(part, name) for part in parts] for name in names)
     counts = numpy.concatenate([part.counts() for part in parts])
     return rows_of(counts, *(numpy.concatenate(column) for column in columns))
 
@@ -60,12 +71,10 @@ def beside(parts: Sequence[tuple[int, Rows]], count: int | None = None) -> Rows:
     if len(parts) == 1:
         return parts[0][1]
     owners = numpy.concatenate([rows.owners() for _, rows in parts])
-    places = numpy.concatenate([rows.places + first for first, rows in parts])
-    weights = numpy.concatenate([rows.weights for _, rows in parts])
-    order = numpy.lexsort([places, weights, owners])
+    pairs = below([replace(rows, places=rows.places + first) for first, rows in parts])
+    order = numpy.lexsort([pairs.places, pairs.weights, owners])
     counts = numpy.sum([rows.counts() for _, rows in parts], axis=0)
-    joined = rows_of(counts, places[order], weights[order])
+    joined = pairs.chosen(counts, order)
     if count is None:
         return joined
-    is_first = joined.ranks() < count
-    return rows_of(numpy.minimum(counts, count), joined.places[is_first], joined.weights[is_first])
+    return joined.chosen(numpy.minimum(counts, count), joined.ranks() < count)

@@ -81,9 +81,8 @@ class ArcNames:
 
     @forks.computed_once
     def by_node(self) -> Groups:
-        return Groups.of(
-            numpy.concatenate([self.tails[self.between], self.heads[self.between]]),
-            numpy.tile(self.between, 2))
+        own = self.between
+        return Groups.of(numpy.concatenate([self.tails[own], self.heads[own]]), numpy.tile(own, 2))
 
     def key_of(self, tails: Integers, heads: Integers) -> Integers:
         """A number for each pair of crossings."""
@@ -112,8 +111,7 @@ class ArcNames:
             functools.partial(
                 finders[kind], name, numpy.array(own), [names[place] for place in own])
             for kind, own in by_kind.items())
-        found = all_of(calls)
-        arcs, places = (numpy.concatenate(column) for column in zip(NOTHING, *found))
+        arcs, places = (numpy.concatenate(column) for column in zip(NOTHING, *all_of(calls)))
         order = numpy.argsort(places, kind="stable")
         return Found(arcs[order], places[order])
 
@@ -183,8 +181,7 @@ class ArcNames:
         """The arcs between two nodes in either direction, of which there may be one alone."""
         ends = [list(column) for column in zip(*map(tuple, names))]
         one, other = (self.crossings_of(name, places, labels) for labels in ends)
-        keys = numpy.append(self.key_of(one, other), self.key_of(other, one))
-        found = self.by_ends.of_each(keys)
+        found = self.by_ends.of_each(numpy.append(self.key_of(one, other), self.key_of(other, one)))
         found = Found(found.items, found.places % len(places))
         return complete(name, places, found, lambda place: (
             f"there is no arc between the nodes of {quoted(names[place])}"))
@@ -310,8 +307,7 @@ class ArcNames:
         """The arcs of what has several numbers each, as a way has rows and a name has streets."""
         numbers = [numbers_by.get(each, []) for each in wanted]
         owners = numpy.repeat(numpy.arange(len(wanted)), [*map(len, numbers)])
-        every = numpy.array([*itertools.chain(*numbers)], numpy.int64)
-        return arcs.of_each(every).through(owners)
+        return arcs.of_each(numpy.array([*itertools.chain(*numbers)], numpy.int64)).through(owners)
 
     # Columns with a value for each row.
 

@@ -91,9 +91,8 @@ class Rows:
         given = ArcNames(self.layers).in_rows(name, given) if hasattr(given, "iloc") else given
         column = numpy.asarray(columns.numbers_in(name, given), float)
         if column.shape != (self.count,):
-            raise DataFault(
-                f"{name} has the shape {column.shape}, and there are {self.count:,} rows of arcs",
-                name)
+            text = f"{name} has the shape {column.shape}, and there are {self.count:,} rows of arcs"
+            raise DataFault(text, name)
         wrong = columns.first_of(~((column >= 0) & (column < numpy.inf)))
         if wrong is not None:
             raise refused(name, wrong, f"{column[wrong]} is not a number from 0 on")

@@ -61,8 +61,7 @@ def edges_with_flows(
         raise DataFault(f"flows: {own[below]} is below 0", "flows")
     most = own.max(initial=0.0)
     widths = {"flow": own, "width": own * (float(widest) / most) if most else own}
-    names = [*frame.columns.drop("geometry"), *widths, "geometry"]
-    return frame.assign(**widths)[names]
+    return frame.assign(**widths)[[*frame.columns.drop("geometry"), *widths, "geometry"]]
 
 
 def drawn_edges(

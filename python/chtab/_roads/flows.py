@@ -138,8 +138,7 @@ def in_one_column(demand: Any, shape: tuple[int, ...]) -> Any:
         return demand
     if hasattr(demand, "iloc"):
         # Numbers of several types become no others.
-        is_of_one = len(set(demand.dtypes)) == 1
-        demand = (demand if is_of_one else demand.astype(object)).to_numpy()
+        demand = (demand if len(set(demand.dtypes)) == 1 else demand.astype(object)).to_numpy()
     elif not hasattr(demand, "__array__"):
         demand = numpy.array(demand, object)
     if demand.shape != shape:
@@ -177,8 +176,7 @@ def series_of(layers: Layers, by_row: NDArray[Any], missed: int) -> pandas.Serie
         own = layers.labels
         ends = [own.listed(column[firsts].tolist()) for column in (names.tails, names.heads)]
         keys = [labelling.keys[row] for row in rows.tolist()]
-        levels = ["source", "target", "key"]
-        index = pandas.MultiIndex.from_arrays([*ends, keys], names=levels)
+        index = pandas.MultiIndex.from_arrays([*ends, keys], names=["source", "target", "key"])
         flows = flows.iloc[rows].set_axis(index)
     else:
         flows.index = index_of_rows(layers)

@@ -222,8 +222,7 @@ class Layers:
             # Version 1.1 kept neither the rows nor what they were called.
             is_known = labelling is None or labelling.rows is not None
             return RowLabels(None if is_known else row_index.UNKNOWN, self.row_count)
-        labels = given.column_labels_in("index", labelling.row_labels)
-        return RowLabels(labels, self.row_count)
+        return RowLabels(given.column_labels_in("index", labelling.row_labels), self.row_count)
 
     @of_files
     def coordinates(self) -> files.Coordinates:

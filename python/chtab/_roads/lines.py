@@ -263,8 +263,7 @@ class Pieces:
         """The nearest point to a place among those of some pieces, as `foot` gives it."""
         steps = self.steps.take(pieces)
         ends = (self.plane.take(some, axis=0).tolist() for some in (steps, steps + 1))
-        rows = zip(steps.tolist(), *ends)
-        return min(foot(place[0], place[1], *row) for row in rows)
+        return min(foot(place[0], place[1], *row) for row in zip(steps.tolist(), *ends))
 
     def is_unsure(self, apart: Any, farthest: Any) -> Any:
         """Whether a piece so far away may have a nearer point than one at a distance squared."""

@@ -51,9 +51,8 @@ class Grid:
         """The nearest node to each place, and the metres between them, as lists."""
         wanted = [sphere.point(*place) for place in zip(longitudes, latitudes)]
         found = [self.nearest_to(at) for at in wanted]
-        return (
-            found,
-            [sphere.metres(math.dist(at, self.points[node])) for at, node in zip(wanted, found)])
+        apart = (math.dist(at, self.points[node]) for at, node in zip(wanted, found))
+        return found, [*map(sphere.metres, apart)]
 
     def cube(self, at: Sequence[float]) -> tuple[int, ...]:
         return tuple(math.floor(part / self.side) for part in at)

@@ -8,7 +8,7 @@ import numpy
 
 from chtab.errors import DataFault
 from chtab._files import row_index
-from chtab._files.columns import EXACT, numbers_in, refuse
+from chtab._files.columns import EXACT, are_whole, numbers_in, refuse, see_that_flat
 from chtab._roads.arc_names import ArcNames
 from chtab._roads.snapping import Spots
 
@@ -102,6 +102,17 @@ def along(engine: InProcess, layers: Layers, values: NDArray[Any], pairs: Intege
     found = numpy.array(sums, float).reshape(width, len(nodes)).T
     found[paths.weights < 0] = numpy.nan
     return found if values.ndim == 2 else found[:, 0]
+
+
+def whole_values(layers: Layers, values: Any) -> NDArray[numpy.uint64]:
+    """The whole values of all arcs of the graph, from one column of those of rows."""
+    found = values_of_rows(layers, values)
+    see_that_flat("values", found)
+    are_right = found >= 0 if found.dtype == numpy.int64 else (found >= 0) & are_whole(found)
+    text = "is not a whole number from 0 on, or is a float above 2^53"
+    refuse("values", ~are_right, lambda row: f"{found[row]} {text}")
+    # Handles of the library compare nothing where nobody can write to them.
+    return numpy.frombuffer(found.astype(numpy.uint64)[layers.rows].tobytes(), numpy.uint64)
 
 
 def are_counts(values: NDArray[Any], most: int) -> bool:

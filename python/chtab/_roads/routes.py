@@ -57,9 +57,8 @@ class Routes(showing.OnMap, collections.abc.Sequence):
         sources, targets = (labels.of(column).tolist() for column in self.pairs.T)
         heads = labels.of(self.heads).tolist()
         weights = measure.in_unit(self.arc_weights).tolist()
-        found = zip(
-            sources, targets, self.paths.weights.tolist(), self.firsts.tolist(),
-            self.firsts[1:].tolist())
+        firsts = self.firsts.tolist()
+        found = zip(sources, targets, self.paths.weights.tolist(), firsts, firsts[1:])
         return [
             Answer(source, target, None, None, None) if weight < 0 else Answer(
                 source, target, measure.one(weight), [source, *heads[first:last]],
@@ -83,9 +82,8 @@ class Routes(showing.OnMap, collections.abc.Sequence):
             None where no path leads.
         """
         found = numpy.split(self.layers.rows_of(self.paths.arcs), self.firsts[1:-1])
-        return [
-            rows if weight >= 0 else None
-            for rows, weight in zip(found, self.paths.weights.tolist())]
+        is_there = (self.paths.weights >= 0).tolist()
+        return [rows if is_own else None for rows, is_own in zip(found, is_there)]
 
     def edges(self) -> list[list[tuple] | None]:
         """Returns the arcs of the routes by their nodes, as networkx and osmnx name edges.
@@ -139,8 +137,7 @@ class Routes(showing.OnMap, collections.abc.Sequence):
         counts = pandas.arrays.IntegerArray(self.paths.counts.copy(), is_missing)
         frame.insert(3, "arcs", pandas.Series(counts))
         if metres:
-            along = numpy.where(is_missing, numpy.nan, self._lengths())
-            frame.insert(4, "metres", along)
+            frame.insert(4, "metres", numpy.where(is_missing, numpy.nan, self._lengths()))
         return frame.rename_axis("query")
 
     def _lengths(self) -> NDArray[numpy.float64]:
@@ -170,9 +167,8 @@ class Routes(showing.OnMap, collections.abc.Sequence):
             The network has no places of nodes.
         """
         is_there = self.paths.weights >= 0
-        lines = iter(
-            self.layers.lines_of(
-                self.pairs[is_there, 0], self.paths.counts[is_there], self.paths.arcs))
+        sources, counts = self.pairs[is_there, 0], self.paths.counts[is_there]
+        lines = iter(self.layers.lines_of(sources, counts, self.paths.arcs))
         return geojson.collection(
             geojson.query_feature(place, each, next(lines) if each.nodes else None, names or {})
             for place, each in enumerate(self))
@@ -209,11 +205,8 @@ class Trip(NamedTuple):
 
     def properties(self, more: dict | None) -> dict[str, Any]:
         """The properties of the feature."""
-        return {
-            **(more or {}),
-            "weight": self.weight,
-            "metres": self.metres and round(self.metres, 1),
-        }
+        metres = self.metres and round(self.metres, 1)
+        return {**(more or {}), "weight": self.weight, "metres": metres}
 
 
 class TripRoutes(showing.OnMap, list):

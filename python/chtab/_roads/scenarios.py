@@ -111,10 +111,7 @@ class Given(NamedTuple):
     @classmethod
     def of(cls, layers: Layers) -> Given:
         """The arcs of the files of a network."""
-        graph = layers.graph
-        tails, heads, weights = (
-            numpy.array(column, numpy.int64)
-            for column in (graph.tails, graph.heads, graph.weights))
+        tails, heads, weights = (numpy.array(each, numpy.int64) for each in layers.graph[1:4])
         return cls(layers, ArcNames(layers), tails, heads, weights, layers.rows)
 
     @property

@@ -141,9 +141,7 @@ class Spots:
 
     def columns(self) -> dict[str, NDArray[Any]]:
         """The arrays by their names."""
-        return {
-            name: column for name, column in vars(self).items()
-            if isinstance(column, numpy.ndarray)}
+        return {name: each for name, each in vars(self).items() if isinstance(each, numpy.ndarray)}
 
     def __len__(self) -> int:
         return len(self.roads)
@@ -164,9 +162,8 @@ class Spots:
     def joined(parts: Sequence[Spots]) -> Spots:
         """Joins spots of one network, one after the other."""
         columns = [part.columns() for part in parts]
-        return replace(
-            parts[0],
-            **{name: numpy.concatenate([each[name] for each in columns]) for name in columns[0]})
+        joined = {name: numpy.concatenate([each[name] for each in columns]) for name in columns[0]}
+        return replace(parts[0], **joined)
 
 
 def digest_of(*columns: NDArray[Any]) -> bytes:

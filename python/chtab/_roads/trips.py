@@ -82,7 +82,6 @@ class Trips:
 
     def reach(self, spot: Spots, within: int | None = None) -> Integers:
         """The answer of `Network.reach`, with a limit in the unit of the graph."""
-        see_that_one(spot)
         outs = spot.out_nodes[0] > 0
         nodes, added = spot.out_nodes[0][outs], spot.out_weights[0][outs]
         limit = FAR - 1 if within is None else within

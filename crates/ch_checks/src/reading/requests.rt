@@ -1,6 +1,6 @@
 //! Requests that come in parts, and a line that comes byte by byte.
 use crate::again::again;
-use ch_read::{MOST_LINE, Request, RequestError, RequestReader};
+use ch_read::{Asked, MOST_LINE, Request, RequestError, RequestReader};
 use std::alloc::{AllocError, Global};
 use std::test::Fail;
 
@@ -9,17 +9,17 @@ fn next(
     alloc: Global,
     reader: &mut RequestReader,
     ended: bool,
-) -> Result<Option<Request>, RequestError> {
+) -> Result<Option<Asked>, RequestError> {
     match reader.next(alloc, ended) {
         Err(RequestError::NoMemory) => reader.next(alloc, ended),
         given => given,
     }
 }
 
-/// A request of each kind, cut into two parts. The last line has no end.
+/// A request of each kind and a new weight, cut into two parts. The last line has no end.
 const PARTS: [&[u8]; 2] = [
     b"q 1 3\nr 1 3\nc\nt 1 1 8\ns 4\ns ",
-    b"5\np 2 0\ns 7\ns 7\nt 0 0\nn 9 0\nn 1",
+    b"5\np 2 0\ns 7\ns 7\nw 1\na 1 3 8\nt 0 0\nn 9 0\nn 1",
 ];
 
 /// It holds if any one request for memory is refused. The call that is refused answers that memory ran out.
@@ -36,9 +36,9 @@ fn requests_come_refused_in_turn(rt: HostRuntime) -> Result<(), Fail> {
             given = given.saturating_add(u32::from(is_given));
         }
     }
-    assert_eq!(rt; given, 6);
+    assert_eq!(rt; given, 7);
     let last = next(alloc, &mut reader, true)?;
-    assert!(rt; matches!(last, Some(Request::Near(0, None))));
+    assert!(rt; matches!(last, Some(Asked::Request(Request::Near(0, None)))));
     Ok(())
 }
 

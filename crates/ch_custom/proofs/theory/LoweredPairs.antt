@@ -34,26 +34,6 @@ row_rises side xs is k j d e lt inside =
     let last = node_here side xs j e (leg_of side e) inside in
     omega arith
 
--- the nodes of a row do not fall
-row_grows : (side : Side) (xs : List LegPair) → IsRow (row_of side xs) → (k j : ℕ) (d e : LegPair) → k ≤ j → j < length xs →
-    (get_or xs k d).node ≤ (get_or xs j e).node
-row_grows side xs is k j d e le inside = elim (cases_eq k j) [
-  | inl same ↦
-      let its : (get_or xs k d).node ≡ (get_or xs j e).node = ap (λ z. (get_or xs z d).node) same
-      ∙ ap (λ (z : LegPair). z.node) (get_or_default xs j d e inside) in
-      omega arith
-  | inr apart ↦ let up = row_rises side xs is k j d e (omega arith) inside in omega arith
-]
-
--- a pair whose node is less than that of the first of a row comes, with those before it, before that row
-pub rows_apart : (side : Side) (others before : List LegPair) (from : ℕ) (f : LegPair) → IsRow (row_of side others) →
-    IsRow (row_of side before) → from < length others → (get_or others from f).node < (get_or before 0 f).node →
-    (k j : ℕ) (d e : LegPair) → k < from + 1 → j < length before → (get_or others k d).node < (get_or before j e).node
-rows_apart side others before from f one two inside less k j d e lt below =
-    let low = row_grows side others one k from d f (omega arith) inside in
-    let high = row_grows side before two 0 j f e (omega arith) below in
-    omega arith
-
 -- one more of the others is less than the rest of a row
 pub less_more : (others before : List LegPair) (place next end : ℕ) (f : LegPair) → next < length others → place ≤ end →
     ((k j : ℕ) (d e : LegPair) → k < next → place ≤ j → j < length before → (get_or others k d).node < (get_or before j e).node) →

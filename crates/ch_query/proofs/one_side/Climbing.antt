@@ -1,6 +1,6 @@
 -- A search without a queue: its beginning, one ancestor, and its end, which is a search with nothing left to settle.
 use Rattle.std.proofs.Common.{◌≡◌, ℕ, ◌+◌, ◌^◌, ◌<◌, ◌≤◌, List, [], ◌∷◌, ◌++◌, length, length-set, Contains, take, map, Option, Some, None}
-use Rattle.std.proofs.Common.{refl, sym, ◌∙◌, ap, subst, arith, get_or, get_or-set_same, get_or-set_other, set, inl, inr, true}
+use Rattle.std.proofs.Common.{refl, sym, ◌∙◌, ap, subst, arith, get_or, get_or-set_same, get_or-set_other, set, inl, inr}
 use Rattle.std.specs.Prelude.{◌⊎◌, is_some, slice_index}
 use Rattle.std.proofs.lemmas.Bool.{cases_eq}
 use Rattle.std.proofs.lemmas.List.{take_more, get_or-map, length-map}
@@ -9,28 +9,30 @@ use Rattle.std.proofs.lemmas.Option.{none-some, same_Some}
 use Rattle.ch_graph.specs.declared.limits.TheConstants.{MOST_WEIGHT}
 use Rattle.ch_graph.specs.declared.cost.Cost.{Cost}
 use Rattle.ch_graph.specs.Cost.{cost_sum, no_cost, cost_at}
-use Rattle.ch_graph.proofs.CostOrder.{IsAtMost_refl}
 use Rattle.ch_hierarchy.specs.declared.leg.Leg.{Leg}
 use Rattle.ch_hierarchy.specs.declared.ranked.RankedLeg.{RankedLeg}
 use Rattle.ch_hierarchy.specs.Rows.{row}
+use Rattle.ch_hierarchy.specs.declared.side.Side.{Side}
 use Rattle.ch_hierarchy.specs.Side.{rows_of}
 use Rattle.ch_hierarchy.specs.Hierarchy.{LevelsAndLegs, nodes_of, IsLevelled}
 use Rattle.ch_hierarchy.specs.Ranked.{rank_of, ranked_leg}
 use Rattle.ch_hierarchy.proofs.code.Ranked.{rank_below, rank_one}
 use Rattle.ch_hierarchy.proofs.theory.NoLeg.{no_leg}
+use Rattle.ch_query.specs.declared.question.Question.{Question}
 use Rattle.ch_query.specs.declared.sides.search.Search.{Search}
 use Rattle.ch_query.specs.ByNode.{by_node, costs_of, keys_of, parents_of}
 use Rattle.ch_query.specs.Climbs.{AreAncestors, AreMetTo, IsAmong, IsClimbing, IsLedBy, IsPartPass, IsTakingLegs, IsUnqueued, Takes}
-use Rattle.ch_query.specs.Meeting.{AreMeeting, IsFoundBy, IsLeastAfter}
-use Rattle.ch_query.specs.Parents.{AreParents, IsNoEarlier}
-use Rattle.ch_query.specs.Search.{IsEmpty, IsRelaxedFrom, IsSearch, IsUpwardCost}
+use Rattle.ch_query.specs.Meeting.{AreMeeting, IsLeastAfter}
+use Rattle.ch_query.specs.Parents.{IsNoEarlier}
+use Rattle.ch_query.specs.Questions.{stalling}
+use Rattle.ch_query.specs.Search.{IsEmpty, IsRelaxedFrom, IsUpwardCost}
 use Rattle.ch_query.specs.TwoSided.{MeetsFirst}
-use Rattle.ch_query.specs.Underway.{idle_of, leg_of_ranked, IsClean, IsSameSearch, IsSized, IsTouched, IsUnderway}
+use Rattle.ch_query.specs.Underway.{leg_of_ranked, IsClean, IsSized, IsTouched, IsUnderway}
 use Rattle.ch_query.proofs.one_side.Begun.{never_some}
 use Rattle.ch_query.proofs.one_side.ByNode.{by_node-size, by_node-at, by_node-set, by_node-some}
 use Rattle.ch_query.proofs.one_side.Expanding.{leg_up, level_small, reached_arcs, rows_size}
 use Rattle.ch_query.proofs.one_side.Passes.{takes_more}
-use Rattle.ch_query.proofs.two_sides.MeetingSteps.{first_trans}
+use Rattle.ch_query.proofs.two_sides.MeetingSteps.{first_trans, sum_found, sum_gains, sum_keeps}
 
 -- among more places
 among_more : (H : LevelsAndLegs) (ranks : List ℕ) (k n : ℕ) → k ≤ n → (v : ℕ) → IsAmong H ranks k v → IsAmong H ranks n v
@@ -100,8 +102,7 @@ led_more rows F G sub best x e p q =
 
 -- x is clean, and y is x with the source s reached
 module _ (H : LevelsAndLegs) (k : IsLevelled H) (ranks : List ℕ) (x y : Search) (s : ℕ) (clean : IsClean (nodes_of H) x)
-    (within : s < nodes_of H) (first : (0 < length ranks) × (slice_index ranks 0 ≡ rank_of H s)) (source : y.source ≡ s)
-    (stalls : y.stalls ≡ true) (most : y.most ≡ MOST_WEIGHT)
+    (within : s < nodes_of H) (first : (0 < length ranks) × (slice_index ranks 0 ≡ rank_of H s))
     (costs : y.labels.costs ≡ set x.labels.costs (rank_of H s) (Some no_cost)) (queue : y.queue ≡ x.queue)
     (parents : y.labels.parents ≡ set x.labels.parents (rank_of H s) s) (touched : IsTouched y.labels.costs y.touched) where
   -- at first no node has a cost
@@ -132,8 +133,8 @@ module _ (H : LevelsAndLegs) (k : IsLevelled H) (ranks : List ℕ) (x y : Search
         | inr away ↦ absurd (none-some c (sym (get_or-set_other (costs_of H x) s v (Some no_cost) None away ∙ unknown v) ∙ now))
       ]
 
-  pub climb_begins : IsClimbing H ranks 0 y
-  climb_begins = record {
+  pub climb_begins : (side : Side) → IsClimbing H (stalling side s) ranks 0 y
+  climb_begins side = record {
     search = record {
       levelled = k;
       sizes = (
@@ -143,29 +144,25 @@ module _ (H : LevelsAndLegs) (k : IsLevelled H) (ranks : List ℕ) (x y : Search
       );
       touched = touched;
       queue = subst IsEmpty (sym queue) clean.queue;
-      stalls = stalls;
-      most = most;
       listed = λ v c e. let is = only_source v c e in (0, first.0, first.0, first.1 ∙ ap (rank_of H) (sym is.0));
     };
     pass = record {
       size = by_node-size H y.labels.parents 0 ∙ sym (by_node-size H y.labels.costs None);
-      start = subst (λ q. cost_at (costs_of H y) q ≡ Some no_cost) (sym source)
-          (ap (λ q. cost_at q s) costs_then ∙ get_or-set_same (costs_of H x) s (Some no_cost) None in_costs);
+      start = ap (λ q. cost_at q s) costs_then ∙ get_or-set_same (costs_of H x) s (Some no_cost) None in_costs;
       sound = λ v c e. let is = only_source v c e in
-          subst (λ q. IsUpwardCost (rows_of H y.side) y.source v q) is.1
-          (record { path = ([], source ∙ sym is.0, refl); weight = omega arith });
+          subst (λ q. IsUpwardCost (rows_of H side) s v q) is.1 (record { path = ([], sym is.0, refl); weight = omega arith });
       taken = λ v c t known l has. absurd (let lt = t.1 in omega arith);
-      led = λ v c ne e. absurd (ne ((only_source v c e).0 ∙ sym source));
+      led = λ v c ne e. absurd (ne (only_source v c e).0);
     };
   }
 
-module _ (H : LevelsAndLegs) (ranks : List ℕ) (k : ℕ) (x : Search) (p : IsClimbing H ranks k x) where
+module _ (H : LevelsAndLegs) (q : Question) (ranks : List ℕ) (k : ℕ) (x : Search) (p : IsClimbing H q ranks k x) where
   -- more nodes have final costs
   more : (v : ℕ) → IsAmong H ranks k v → IsAmong H ranks (k + 1) v
   more = among_more H ranks k (k + 1) (omega arith)
 
   -- the next ancestor is not reached
-  pub climb_skips : cost_at x.labels.costs (slice_index ranks k) ≡ None → IsClimbing H ranks (k + 1) x
+  pub climb_skips : cost_at x.labels.costs (slice_index ranks k) ≡ None → IsClimbing H q ranks (k + 1) x
   climb_skips none = record {
     search = p.search;
     pass = record {
@@ -182,7 +179,7 @@ module _ (H : LevelsAndLegs) (ranks : List ℕ) (k : ℕ) (x : Search) (p : IsCl
   }
 
   -- the next ancestor is v, whose legs are taken from here on
-  pub climb_opens : (v : ℕ) (c : Cost) → cost_at (costs_of H x) v ≡ Some c → IsTakingLegs H ranks k v c [] x
+  pub climb_opens : (v : ℕ) (c : Cost) → cost_at (costs_of H x) v ≡ Some c → IsTakingLegs H q ranks k v c [] x
   climb_opens v c known = record {
     search = p.search;
     part = record {
@@ -198,33 +195,33 @@ module _ (H : LevelsAndLegs) (ranks : List ℕ) (k : ℕ) (x : Search) (p : IsCl
     };
   }
 
--- the program reads the leg at place i of the legs of v, which is at place k of the ancestors of the source of x
-module _ {H : LevelsAndLegs} {ranks : List ℕ} {x y : Search} {k v : ℕ} {c : Cost} {items : List RankedLeg} {i : ℕ} (d : RankedLeg)
-    (same : IsSameSearch x y) (p : IsTakingLegs H ranks k v c (take i (row (rows_of H x.side) v)) y)
-    (a : AreAncestors H x.side x.source ranks) (place : k < length ranks) (v_low : v < nodes_of H)
+-- the program reads the leg at place i of the legs of v, which is at place k of the ancestors of the source
+module _ {H : LevelsAndLegs} {q : Question} {ranks : List ℕ} {y : Search} {k v : ℕ} {c : Cost} {items : List RankedLeg} {i : ℕ}
+    (d : RankedLeg) (p : IsTakingLegs H q ranks k v c (take i (row (rows_of H q.side) v)) y)
+    (a : AreAncestors H q.side q.source ranks) (place : k < length ranks) (v_low : v < nodes_of H)
     (v_is : slice_index ranks k ≡ rank_of H v)
-    (e : items ≡ map (ranked_leg H) (row (rows_of H x.side) v)) (lt : i < length items) where
+    (e : items ≡ map (ranked_leg H) (row (rows_of H q.side) v)) (lt : i < length items) where
   -- it is a leg of the row
-  low : i < length (row (rows_of H x.side) v)
-  low = (let size = ap length e ∙ length-map (row (rows_of H x.side) v) (ranked_leg H) in omega arith)
+  low : i < length (row (rows_of H q.side) v)
+  low = (let size = ap length e ∙ length-map (row (rows_of H q.side) v) (ranked_leg H) in omega arith)
 
   here : Leg
-  here = get_or (row (rows_of H x.side) v) i no_leg
+  here = get_or (row (rows_of H q.side) v) i no_leg
 
-  has : Contains (row (rows_of H x.side) v) here
+  has : Contains (row (rows_of H q.side) v) here
   unfolding here
-  has = Contains-get_or (row (rows_of H x.side) v) i no_leg low
+  has = Contains-get_or (row (rows_of H q.side) v) i no_leg low
 
   -- the leg that is read is that leg by rank
   is : get_or items i d ≡ ranked_leg H here
   unfolding here
-  is = ap (λ q. get_or q i d) e ∙ get_or-map (ranked_leg H) (row (rows_of H x.side) v) i no_leg d low
+  is = ap (λ r. get_or r i d) e ∙ get_or-map (ranked_leg H) (row (rows_of H q.side) v) i no_leg d low
 
   -- the leg leads to a higher node
   rises : (rank_of H here.node < rank_of H v) × (here.node < nodes_of H) × (here.cost.weight ≤ MOST_WEIGHT)
       × (here.cost.arcs < nodes_of H)
   rises =
-      let up = leg_up H p.search.levelled x.side v here has in
+      let up = leg_up H p.search.levelled q.side v here has in
       let higher = up.higher in
       let small = level_small H p.search.levelled here.node in
       (omega arith, up.node, up.weight, up.arcs)
@@ -233,23 +230,23 @@ module _ {H : LevelsAndLegs} {ranks : List ℕ} {x y : Search} {k v : ℕ} {c : 
   in_labels = let r = rank_below H p.search.levelled here.node rises.1 in let s = p.search.sizes.0 in omega arith
 
   pub taken_rank : (get_or items i d).rank < length y.labels.costs
-  taken_rank = subst (λ (q : RankedLeg). q.rank < length y.labels.costs) (sym is) in_labels
+  taken_rank = subst (λ (r : RankedLeg). r.rank < length y.labels.costs) (sym is) in_labels
 
-  reached : IsUpwardCost (rows_of H y.side) y.source v c
+  reached : IsUpwardCost (rows_of H q.side) q.source v c
   reached = p.part.pass.sound v c p.part.known
 
   pub taken_weights : (c.weight ≤ MOST_WEIGHT) × ((get_or items i d).weight ≤ MOST_WEIGHT)
-  taken_weights = (reached.weight, subst (λ (q : RankedLeg). q.weight ≤ MOST_WEIGHT) (sym is) rises.2)
+  taken_weights = (reached.weight, subst (λ (r : RankedLeg). r.weight ≤ MOST_WEIGHT) (sym is) rises.2)
 
   few : c.arcs + here.cost.arcs < 2 ^ 63
   few =
-      let most = reached_arcs H p.search.levelled y.side y.source v c reached in
+      let most = reached_arcs H p.search.levelled q.side q.source v c reached in
       let arcs = rises.3 in
       let count = p.search.levelled.count in
       omega arith
 
   pub taken_arcs : c.arcs + (get_or items i d).arcs < 2 ^ 63
-  taken_arcs = subst (λ (q : RankedLeg). c.arcs + q.arcs < 2 ^ 63) (sym is) few
+  taken_arcs = subst (λ (r : RankedLeg). c.arcs + r.arcs < 2 ^ 63) (sym is) few
 
   -- the cost of its node is not final
   unsettled : IsAmong H ranks (k + 1) here.node → ⊥
@@ -264,37 +261,29 @@ module _ {H : LevelsAndLegs} {ranks : List ℕ} {x y : Search} {k v : ℕ} {c : 
   -- the leg is taken
   module _ (z : Search) (queue : z.queue ≡ y.queue)
       (r : Takes MOST_WEIGHT y.labels.costs y.labels.parents v c (leg_of_ranked (get_or items i d)) z.labels.costs z.labels.parents)
-      (touched : IsTouched z.labels.costs z.touched) (after : IsSameSearch y z) where
+      (touched : IsTouched z.labels.costs z.touched) where
     by_rank : Takes MOST_WEIGHT y.labels.costs y.labels.parents v c (leg_of_ranked (ranked_leg H here)) z.labels.costs z.labels.parents
-    by_rank = subst (λ q. Takes MOST_WEIGHT y.labels.costs y.labels.parents v c (leg_of_ranked q) z.labels.costs z.labels.parents) is r
+    by_rank = subst (λ leg. Takes MOST_WEIGHT y.labels.costs y.labels.parents v c (leg_of_ranked leg) z.labels.costs z.labels.parents) is r
 
     takes : Takes MOST_WEIGHT (costs_of H y) (parents_of H y) v c here (costs_of H z) (parents_of H z)
     takes = takes_by_node H p.search.levelled y z v c here p.search.sizes rises.1 by_rank
 
-    part : IsPartPass (rows_of H z.side) z.source (IsAmong H ranks k) (IsAmong H ranks (k + 1)) (costs_of H z) (parents_of H z) v c
-        (take i (row (rows_of H x.side) v) ++ here ∷ [])
-    part =
-        subst (λ q. IsPartPass (rows_of H q) z.source (IsAmong H ranks k) (IsAmong H ranks (k + 1)) (costs_of H z) (parents_of H z) v c
-        (take i (row (rows_of H x.side) v) ++ here ∷ [])) (sym after.side)
-        (subst (λ q. IsPartPass (rows_of H y.side) q (IsAmong H ranks k) (IsAmong H ranks (k + 1)) (costs_of H z) (parents_of H z) v c
-        (take i (row (rows_of H x.side) v) ++ here ∷ [])) (sym after.source)
-        (takes_more (rows_of H y.side) y.source (IsAmong H ranks k) (IsAmong H ranks (k + 1))
+    part : IsPartPass (rows_of H q.side) q.source (IsAmong H ranks k) (IsAmong H ranks (k + 1)) (costs_of H z) (parents_of H z) v c
+        (take i (row (rows_of H q.side) v) ++ here ∷ [])
+    part = takes_more (rows_of H q.side) q.source (IsAmong H ranks k) (IsAmong H ranks (k + 1))
         (among_more H ranks k (k + 1) (omega arith)) (costs_of H y) (parents_of H y) v c (k, omega arith, place, v_is)
-        (take i (row (rows_of H x.side) v)) p.part here
-        (subst (λ q. Contains (row (rows_of H q) v) here) (sym same.side) has) unsettled
+        (take i (row (rows_of H q.side) v)) p.part here has unsettled
         (let size = by_node-size H y.labels.costs None in let node = rises.1 in omega arith)
-        (costs_of H z) (parents_of H z) takes))
+        (costs_of H z) (parents_of H z) takes
 
-    pub takes_step : IsTakingLegs H ranks k v c (take (i + 1) (row (rows_of H x.side) v)) z
+    pub takes_step : IsTakingLegs H q ranks k v c (take (i + 1) (row (rows_of H q.side) v)) z
     unfolding here
-    takes_step = subst (λ legs. IsTakingLegs H ranks k v c legs z) (sym (take_more (row (rows_of H x.side) v) i no_leg low)) (record {
+    takes_step = subst (λ legs. IsTakingLegs H q ranks k v c legs z) (sym (take_more (row (rows_of H q.side) v) i no_leg low)) (record {
       search = record {
         levelled = p.search.levelled;
         sizes = takes_sizes (nodes_of H) MOST_WEIGHT y z v c (leg_of_ranked (ranked_leg H here)) p.search.sizes queue by_rank;
         touched = touched;
         queue = subst IsEmpty (sym queue) p.search.queue;
-        stalls = after.stalls ∙ p.search.stalls;
-        most = after.most ∙ p.search.most;
         listed = λ w b known. elim (takes_known MOST_WEIGHT (costs_of H y) (costs_of H z) (parents_of H y) (parents_of H z) v c here takes
             w b known) [
               | inl old ↦ p.search.listed w b old
@@ -305,10 +294,10 @@ module _ {H : LevelsAndLegs} {ranks : List ℕ} {x y : Search} {k v : ℕ} {c : 
     })
 
 -- all legs of v were taken
-pub climb_done : (H : LevelsAndLegs) (ranks : List ℕ) (k v : ℕ) (c : Cost) (legs : List Leg) (x y : Search) → v < nodes_of H →
-    slice_index ranks k ≡ rank_of H v → IsSameSearch x y → IsTakingLegs H ranks k v c legs y → legs ≡ row (rows_of H x.side) v →
-    IsClimbing H ranks (k + 1) y
-climb_done H ranks k v c legs x y v_low v_is same p e = record {
+pub climb_done : (H : LevelsAndLegs) (q : Question) (ranks : List ℕ) (k v : ℕ) (c : Cost) (legs : List Leg) (y : Search) → v < nodes_of H →
+    slice_index ranks k ≡ rank_of H v → IsTakingLegs H q ranks k v c legs y → legs ≡ row (rows_of H q.side) v →
+    IsClimbing H q ranks (k + 1) y
+climb_done H q ranks k v c legs y v_low v_is p e = record {
   search = p.search;
   pass = record {
     size = p.part.pass.size;
@@ -319,12 +308,11 @@ climb_done H ranks k v c legs x y v_low v_is same p e = record {
           let w_low = (by_node-some H y.labels.costs w b known).0 in
           let one : v ≡ w = rank_one H p.search.levelled v w v_low w_low (sym v_is ∙ ap (slice_index ranks) (sym is) ∙ t.3) in
           let cost : c ≡ b = same_Some _ _ (sym p.part.known ∙ ap (cost_at (costs_of H y)) one ∙ known) in
-          let whole : (l : Leg) → Contains (row (rows_of H y.side) v) l → Contains legs l =
-          λ l of. subst (λ xs. Contains xs l) (ap (λ q. row (rows_of H q) v) same.side ∙ sym e) of in
-          subst (λ q. (l : Leg) → Contains (row (rows_of H y.side) q) l → IsRelaxedFrom MOST_WEIGHT (costs_of H y) b l
-          × IsNoEarlier MOST_WEIGHT (costs_of H y) (parents_of H y) q b l) one
-          (subst (λ q. (l : Leg) → Contains (row (rows_of H y.side) v) l → IsRelaxedFrom MOST_WEIGHT (costs_of H y) q l
-          × IsNoEarlier MOST_WEIGHT (costs_of H y) (parents_of H y) v q l) cost (λ l of. p.part.relaxed l (whole l of)))
+          subst (λ n. (l : Leg) → Contains (row (rows_of H q.side) n) l → IsRelaxedFrom MOST_WEIGHT (costs_of H y) b l
+          × IsNoEarlier MOST_WEIGHT (costs_of H y) (parents_of H y) n b l) one
+          (subst (λ d. (l : Leg) → Contains (row (rows_of H q.side) v) l → IsRelaxedFrom MOST_WEIGHT (costs_of H y) d l
+          × IsNoEarlier MOST_WEIGHT (costs_of H y) (parents_of H y) v d l) cost
+          (λ l of. p.part.relaxed l (subst (λ xs. Contains xs l) (sym e) of)))
       | inr ne ↦ p.part.pass.taken w b (t.0, (let lt = t.1 in omega arith), t.2, t.3) known
     ];
     led = p.part.pass.led;
@@ -332,9 +320,9 @@ climb_done H ranks k v c legs x y v_low v_is same p e = record {
 }
 
 -- when the legs of all ancestors were taken, nothing is left to settle
-pub climb_ends : (H : LevelsAndLegs) (ranks : List ℕ) (count : ℕ) (x : Search) → length ranks ≤ count → IsClimbing H ranks count x →
-    IsUnderway H x
-climb_ends H ranks count x whole p =
+pub climb_ends : (H : LevelsAndLegs) (side : Side) (s : ℕ) (ranks : List ℕ) (count : ℕ) (x : Search) → length ranks ≤ count →
+    IsClimbing H (stalling side s) ranks count x → IsUnderway H (stalling side s) x
+climb_ends H side s ranks count x whole p =
     let u = p.search in
     let all : (v : ℕ) (c : Cost) → cost_at (costs_of H x) v ≡ Some c → IsAmong H ranks count v =
     λ v c e. among_more H ranks (length ranks) count whole v (u.listed v c e) in
@@ -343,112 +331,85 @@ climb_ends H ranks count x whole p =
     record {
       levelled = u.levelled;
       sizes = u.sizes;
-      search = subst (λ m. IsSearch m (rows_of H x.side) x.source (idle_of H x) (costs_of H x) (keys_of H x)) (sym u.most) (record {
+      search = record {
         limits = omega arith;
         sizes = (
-          by_node-size H x.labels.costs None ∙ sym (rows_size H u.levelled x.side),
-          by_node-size H x.queue None ∙ sym (rows_size H u.levelled x.side),
+          by_node-size H x.labels.costs None ∙ sym (rows_size H u.levelled side),
+          by_node-size H x.queue None ∙ sym (rows_size H u.levelled side),
         );
         start = p.pass.start;
         sound = p.pass.sound;
         light = λ v c e. (p.pass.sound v c e).weight;
         queued = λ v c e. absurd (none-some c (sym (no_key v) ∙ e));
         order = λ v w c d s e. absurd (none-some d (sym (no_key w) ∙ e));
-        frontier = λ v c s. inr (λ l has. (p.pass.taken v c (all v c s.0) s.0 l has).0);
-      });
-      parents = subst (λ m. AreParents m (rows_of H x.side) x.source (idle_of H x) (costs_of H x) (keys_of H x) (parents_of H x))
-          (sym u.most) (record {
-            size = p.pass.size;
-            led = λ y e ne k. let q = p.pass.led y e ne k in record {
-              cost = q.cost;
-              settled = (q.known, no_key (slice_index (parents_of H x) y));
-              leg = q.leg;
-              has = q.has;
-              node = q.node;
-              sum = q.sum;
-            };
-            first = λ v c s. inr (λ l has. (p.pass.taken v c (all v c s.0) s.0 l has).1);
-          });
+        frontier = λ v c is. inr (λ l has. (p.pass.taken v c (all v c is.0) is.0 l has).0);
+      };
+      parents = record {
+        size = p.pass.size;
+        led = λ y e ne k. let by = p.pass.led y e ne k in record {
+          cost = by.cost;
+          settled = (by.known, no_key (slice_index (parents_of H x) y));
+          leg = by.leg;
+          has = by.has;
+          node = by.node;
+          sum = by.sum;
+        };
+        first = λ v c is. inr (λ l has. (p.pass.taken v c (all v c is.0) is.0 l has).1);
+      };
       touched = u.touched;
     }
 
 -- a step of the sums of two searches
-module _ (H : LevelsAndLegs) (ranks : List ℕ) (k : ℕ) (x y : Search) (least : Option (Cost × ℕ)) (m : AreMetTo H ranks k x y least) where
+module _ (H : LevelsAndLegs) (q r : Question) (ranks : List ℕ) (k : ℕ) (x y : Search) (least : Option (Cost × ℕ))
+    (m : AreMetTo H q r ranks k x y least) where
   -- the first search has not reached the next node
-  pub met_skips : cost_at x.labels.costs (slice_index ranks k) ≡ None → AreMetTo H ranks (k + 1) x y least
+  pub met_skips : cost_at x.labels.costs (slice_index ranks k) ≡ None → AreMetTo H q r ranks (k + 1) x y least
   met_skips none = record {
     seen = λ v a b t here. elim (cases_eq t.0 k) [
-      | inl is ↦ absurd (none-some a (sym none ∙ ap (λ r. cost_at x.labels.costs (slice_index ranks r)) (sym is)
+      | inl is ↦ absurd (none-some a (sym none ∙ ap (λ i. cost_at x.labels.costs (slice_index ranks i)) (sym is)
           ∙ ap (cost_at x.labels.costs) t.3 ∙ (by_node-some H x.labels.costs v a here).1))
       | inr ne ↦ m.seen v a b (t.0, (let lt = t.1 in omega arith), t.2, t.3) here
     ];
     found = m.found;
   }
 
-  module _ (k_x : IsUnderway H x) (k_y : IsUnderway H y) (v : ℕ) (v_low : v < nodes_of H) (v_is : slice_index ranks k ≡ rank_of H v)
-      (c : Cost) (known : cost_at (costs_of H x) v ≡ Some c) (least' : Option (Cost × ℕ)) where
-    -- the new sum is at most the old one
-    keeps : (o : Option Cost) → IsLeastAfter o v c least least' → (d : Cost × ℕ) → least ≡ Some d →
-        (f : Cost × ℕ) × (least' ≡ Some f) × MeetsFirst f d
-    keeps None after d e = (d, after ∙ e, (IsAtMost_refl d.0, λ _. omega arith))
-    keeps (Some b) after d e = after.covers_old d e
-
-    -- the new sum is at most the sum at v
-    gains : (o : Option Cost) (b : Cost) → o ≡ Some b → IsLeastAfter o v c least least' →
-        (f : Cost × ℕ) × (least' ≡ Some f) × MeetsFirst f (cost_sum c b, v)
-    gains None b e after = absurd (none-some _ e)
-    gains (Some d) b e after =
-        subst (λ r. (f : Cost × ℕ) × (least' ≡ Some f) × MeetsFirst f (cost_sum c r, v)) (same_Some _ _ e) after.covers_new
-
-    -- the new sum is the sum of two paths
-    found_at : (o : Option Cost) → cost_at (costs_of H y) v ≡ o → IsLeastAfter o v c least least' → IsFoundBy H x y least'
-    found_at None at after f e = m.found f (sym after ∙ e)
-    found_at (Some d) at after f e = elim after.chosen [
-      | inl new ↦
-          let same : (cost_sum c d, v) ≡ f = same_Some _ _ (sym new ∙ e) in
-          subst (λ (r : Cost × ℕ). (a b : Cost) × IsUpwardCost (rows_of H x.side) x.source r.1 a
-          × IsUpwardCost (rows_of H y.side) y.source r.1 b × (cost_sum a b ≡ r.0)) same
-          (c, d, k_x.search.sound v c known, k_y.search.sound v d at, refl)
-      | inr old ↦ m.found f (sym old ∙ e)
-    ]
-
-    -- the sum of the next node counts
-    pub met_more : IsLeastAfter (cost_at (costs_of H y) v) v c least least' → AreMetTo H ranks (k + 1) x y least'
-    met_more after = record {
-      seen = λ w a b t here there. elim (cases_eq t.0 k) [
-        | inl is ↦
-            let w_low = (by_node-some H x.labels.costs w a here).0 in
-            let one : v ≡ w = rank_one H k_x.levelled v w v_low w_low (sym v_is ∙ ap (slice_index ranks) (sym is) ∙ t.3) in
-            let cost : c ≡ a = same_Some _ _ (sym known ∙ ap (cost_at (costs_of H x)) one ∙ here) in
-            let r = gains _ b (ap (cost_at (costs_of H y)) one ∙ there) after in (
-              r.0,
-              r.1,
-              subst (λ q. MeetsFirst r.0 (cost_sum a b, q)) one (subst (λ q. MeetsFirst r.0 (cost_sum q b, v)) cost r.2),
-            )
-        | inr ne ↦
-            let old = m.seen w a b (t.0, (let lt = t.1 in omega arith), t.2, t.3) here there in
-            let new = keeps _ after old.0 old.1 in
-            (new.0, new.1, first_trans new.0 old.0 (cost_sum a b, w) new.2 old.2)
-      ];
-      found = found_at _ refl after;
-    }
+  -- the sum of the next node counts
+  pub met_more : (k_x : IsUnderway H q x) (k_y : IsUnderway H r y) (v : ℕ) → v < nodes_of H → slice_index ranks k ≡ rank_of H v →
+      (c : Cost) → cost_at (costs_of H x) v ≡ Some c → (least' : Option (Cost × ℕ)) →
+      IsLeastAfter (cost_at (costs_of H y) v) v c least least' → AreMetTo H q r ranks (k + 1) x y least'
+  met_more k_x k_y v v_low v_is c known least' after = record {
+    seen = λ w a b t here there. elim (cases_eq t.0 k) [
+      | inl is ↦
+          let w_low = (by_node-some H x.labels.costs w a here).0 in
+          let one : v ≡ w = rank_one H k_x.levelled v w v_low w_low (sym v_is ∙ ap (slice_index ranks) (sym is) ∙ t.3) in
+          let cost : c ≡ a = same_Some _ _ (sym known ∙ ap (cost_at (costs_of H x)) one ∙ here) in
+          let sum = sum_gains _ v c least least' after b (ap (cost_at (costs_of H y)) one ∙ there) in (
+            sum.0,
+            sum.1,
+            subst (λ n. MeetsFirst sum.0 (cost_sum a b, n)) one (subst (λ d. MeetsFirst sum.0 (cost_sum d b, v)) cost sum.2),
+          )
+      | inr ne ↦
+          let old = m.seen w a b (t.0, (let lt = t.1 in omega arith), t.2, t.3) here there in
+          let new = sum_keeps _ v c least least' after old.0 old.1 in
+          (new.0, new.1, first_trans new.0 old.0 (cost_sum a b, w) new.2 old.2)
+    ];
+    found = sum_found H q r x y k_x k_y v c known least least' m.found after;
+  }
 
 -- before the first node no sum is known
-pub met_none : (H : LevelsAndLegs) (ranks : List ℕ) (x y : Search) → AreMetTo H ranks 0 x y None
-met_none H ranks x y = record {
+pub met_none : (H : LevelsAndLegs) (q r : Question) (ranks : List ℕ) (x y : Search) → AreMetTo H q r ranks 0 x y None
+met_none H q r ranks x y = record {
   seen = λ v a b t. absurd (let lt = t.1 in omega arith);
   found = λ e is. absurd (none-some e is);
 }
 
 -- past the last node the searches have met
-pub met_all : (H : LevelsAndLegs) (ranks : List ℕ) (count : ℕ) (x y : Search) (least : Option (Cost × ℕ)) → length ranks ≤ count →
-    AreMetTo H ranks count x y least → IsUnqueued H ranks x → IsUnderway H x → IsUnderway H y → y.stalls ≡ true → y.most ≡ MOST_WEIGHT →
-    AreMeeting H x y least
-met_all H ranks count x y least whole m u here there stalls most = record {
+pub met_all : (H : LevelsAndLegs) (q r : Question) (ranks : List ℕ) (count : ℕ) (x y : Search) (least : Option (Cost × ℕ)) →
+    length ranks ≤ count → AreMetTo H q r ranks count x y least → IsUnqueued H ranks x → IsUnderway H q x → IsUnderway H r y →
+    AreMeeting H q r x y least
+met_all H q r ranks count x y least whole m u here there = record {
   here = here;
   there = there;
-  stalls = (u.stalls, stalls);
-  most = (u.most, most);
   seen = λ v a b h k. m.seen v a b (among_more H ranks (length ranks) count whole v (u.listed v a h.0)) h.0 k.0;
   found = m.found;
 }

@@ -15,6 +15,7 @@ use Rattle.ch_queue.specs.Queue.{IsLeastEntry}
 use Rattle.ch_hierarchy.specs.Ranked.{rank_of}
 use Rattle.ch_hierarchy.specs.Side.{rows_of}
 use Rattle.ch_query.specs.ByNode.{by_node, costs_of, keys_of, parents_of}
+use Rattle.ch_query.specs.declared.question.Question.{Question}
 use Rattle.ch_query.specs.declared.sides.search.Search.{Search}
 use Rattle.ch_query.specs.Search.{IsLeastKey, IsExpanding, OrNode, count_unsettled}
 use Rattle.ch_query.specs.Parents.{AreParents}
@@ -60,9 +61,10 @@ abbrev pub with_queue : Search → List (Option Cost) → Search
 with_queue x q = record x { queue = q }
 
 -- a rank with a key is a rank
-pub key_rank : (H : LevelsAndLegs) (x : Search) (rank : ℕ) (c : Cost) → IsUnderway H x → IsLeastEntry cost_cmp x.queue (c, rank) →
+pub key_rank : (H : LevelsAndLegs) (q : Question) (x : Search) (rank : ℕ) (c : Cost) → IsUnderway H q x →
+    IsLeastEntry cost_cmp x.queue (c, rank) →
     rank < nodes_of H
-key_rank H x rank c u l = let lt = key_within x.queue rank c l.has in let size = u.sizes.1 in omega arith
+key_rank H q x rank c u l = let lt = key_within x.queue rank c l.has in let size = u.sizes.1 in omega arith
 
 -- v is a node of least key, and q is the queue without v
 pub record IsPopped (H : LevelsAndLegs) (x : Search) (q : List (Option Cost)) (v : ℕ) (c : Cost) : Type 0 where
@@ -71,10 +73,10 @@ pub record IsPopped (H : LevelsAndLegs) (x : Search) (q : List (Option Cost)) (v
   pub rest : keys_of H (with_queue x q) ≡ set (keys_of H x) v None
 
 -- the node of the rank that leaves the queue is such a node
-pub popped_at : (H : LevelsAndLegs) (x : Search) (q : List (Option Cost)) (v rank : ℕ) (c : Cost) → IsUnderway H x →
+pub popped_at : (H : LevelsAndLegs) (q : Question) (x : Search) (queue : List (Option Cost)) (v rank : ℕ) (c : Cost) → IsUnderway H q x →
     v < nodes_of H → rank_of H v ≡ rank →
-    IsLeastEntry cost_cmp x.queue (c, rank) → q ≡ set x.queue rank None → IsPopped H x q v c
-popped_at H x q v rank c u within at l e = record {
+    IsLeastEntry cost_cmp x.queue (c, rank) → queue ≡ set x.queue rank None → IsPopped H x queue v c
+popped_at H q x queue v rank c u within at l e = record {
   key = record {
     has = by_node-at H x.queue None None v within ∙ ap (cost_at x.queue) at ∙ l.has;
     least = λ w d known. (least_key x.queue (c, rank) l).least (rank_of H w) d (by_node-some H x.queue w d known).1;
@@ -85,25 +87,26 @@ popped_at H x q v rank c u within at l e = record {
 }
 
 -- a search under way whose node of least key leaves the queue
-module _ (H : LevelsAndLegs) (x : Search) (q : List (Option Cost)) (v : ℕ) (c : Cost) (u : IsUnderway H x) (p : IsPopped H x q v c) where
+module _ (H : LevelsAndLegs) (q : Question) (x : Search) (queue : List (Option Cost)) (v : ℕ) (c : Cost) (u : IsUnderway H q x)
+    (p : IsPopped H x queue v c) where
   -- the node has a key
   within : v < length (keys_of H x)
   within = key_within (keys_of H x) v c p.key.has
 
   -- the legs of the node are taken next
-  pub pop_expands : IsExpandingAt H (with_queue x q) v c
+  pub pop_expands : IsExpandingAt H q (with_queue x queue) v c
   pop_expands = record {
     levelled = u.levelled;
     sizes = (u.sizes.0, p.size ∙ u.sizes.1, u.sizes.2);
     within = (let a = within in let b = by_node-size H x.queue None in omega arith);
-    search = subst (λ r. IsExpanding x.most (rows_of H x.side) x.source (OrNode (idle_of H x) v) (costs_of H x) r v c) (sym p.rest)
+    search = subst (λ r. IsExpanding q.most (rows_of H q.side) q.source (OrNode (idle_of H q) v) (costs_of H x) r v c) (sym p.rest)
         (popped _ _ _ _ _ u.search v c p.key.has p.key.least within);
-    parents = subst (λ r. AreParents x.most (rows_of H x.side) x.source (OrNode (idle_of H x) v) (costs_of H x) r (parents_of H x))
+    parents = subst (λ r. AreParents q.most (rows_of H q.side) q.source (OrNode (idle_of H q) v) (costs_of H x) r (parents_of H x))
         (sym p.rest)
         (popped_parents _ _ _ _ _ _ u.search u.parents v c p.key.has p.key.least within);
     touched = u.touched;
   }
 
   -- one node fewer is unsettled
-  pub pop_falls : count_unsettled_in H (with_queue x q) + 1 ≡ count_unsettled_in H x
+  pub pop_falls : count_unsettled_in H (with_queue x queue) + 1 ≡ count_unsettled_in H x
   pop_falls = ap (λ r. count_unsettled (costs_of H x) r + 1) p.rest ∙ popped_falls _ _ _ _ _ u.search v c p.key.has p.key.least within

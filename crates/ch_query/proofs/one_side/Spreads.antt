@@ -20,11 +20,11 @@ use Rattle.ch_hierarchy.specs.Hierarchy.{LevelsAndLegs, nodes_of, IsLevelled}
 use Rattle.ch_hierarchy.specs.Rows.{row}
 use Rattle.ch_hierarchy.proofs.code.Ranked.{rank_one}
 use Rattle.ch_query.specs.ByNode.{costs_of, keys_of}
+use Rattle.ch_query.specs.declared.question.Question.{Question}
 use Rattle.ch_query.specs.declared.sides.search.Search.{Search}
 use Rattle.ch_query.specs.Limits.{IsMost}
 use Rattle.ch_query.specs.Search.{IsEmpty}
 use Rattle.ch_hierarchy.specs.Ranked.{rank_of}
-use Rattle.ch_hierarchy.specs.declared.side.Side.{Side}
 use Rattle.ch_hierarchy.specs.Side.{rows_of}
 use Rattle.ch_query.specs.Underway.{back_of, IsSized, IsTouched, IsRoom, idle_of, IsUnderway}
 use Rattle.ch_query.specs.Spread.{IsSpread, AreReached, entry}
@@ -40,9 +40,8 @@ sorted_rises xs ys distinct p sorted =
     (IsDistinct-IsPermutation eqb eqb_flips xs ys p d))
 
 -- a search under way has room for all nodes
-pub underway_room : (H : LevelsAndLegs) (x : Search) → IsUnderway H x → IsRoom x
-underway_room H x u =
-    record { queue = u.sizes.1 ∙ sym u.sizes.0; parents = u.sizes.2 ∙ sym u.sizes.0; touched = u.touched; most = u.search.limits }
+pub underway_room : (H : LevelsAndLegs) (q : Question) (x : Search) → IsUnderway H q x → IsRoom x
+underway_room H q x u = record { queue = u.sizes.1 ∙ sym u.sizes.0; parents = u.sizes.2 ∙ sym u.sizes.0; touched = u.touched }
 
 -- a cost that is known is the one in the list
 some_known : (o : Option Cost) → is_some o ≡ true → o ≡ Some (unwrap_or o no_cost)
@@ -54,12 +53,12 @@ none_in_row : (v : ℕ) (l : Leg) → Contains (row [] v) l → ⊥
 none_in_row v l h = let lt = h.1 in omega arith
 
 -- a search that does not stall has no idle node
-pub never_idle : (H : LevelsAndLegs) (x : Search) → x.stalls ≡ false → (v : ℕ) (c : Cost) → idle_of H x v c → ⊥
-never_idle H x off v c idle = none_in_row v idle.leg (subst (λ b. Contains (row (back_of H x.side b) v) idle.leg) off idle.has)
+pub never_idle : (H : LevelsAndLegs) (q : Question) → q.stalls ≡ false → (v : ℕ) (c : Cost) → idle_of H q v c → ⊥
+never_idle H q off v c idle = none_in_row v idle.leg (subst (λ b. Contains (row (back_of H q.side b) v) idle.leg) off idle.has)
 
 -- a search that has ended without stalling, and its touched nodes in order
-module _ (H : LevelsAndLegs) (x : Search) (u : IsUnderway H x) (off : x.stalls ≡ false) (done : IsEmpty (keys_of H x))
-    (limit : Option ℕ) (most : IsMost limit x.most)
+module _ (H : LevelsAndLegs) (q : Question) (x : Search) (u : IsUnderway H q x) (off : q.stalls ≡ false) (done : IsEmpty (keys_of H x))
+    (limit : Option ℕ) (most : IsMost limit q.most)
     (nodes : List ℕ) (rises : AllPairs (λ a b. a < b) nodes)
     (reached : (v : ℕ) → Contains nodes v → is_some (cost_at (costs_of H x) v) ≡ true)
     (all : (v : ℕ) → is_some (cost_at (costs_of H x) v) ≡ true → Contains nodes v) where
@@ -72,7 +71,7 @@ module _ (H : LevelsAndLegs) (x : Search) (u : IsUnderway H x) (off : x.stalls �
   size = length-map nodes (entry (costs_of H x))
 
   -- the nodes with their costs are the spread
-  pub spread_is : IsSpread (rows_of H x.side) limit x.source (map (entry (costs_of H x)) nodes)
+  pub spread_is : IsSpread (rows_of H q.side) limit q.source (map (entry (costs_of H x)) nodes)
   spread_is = record {
     order = λ i j d lt within.
         let n = size in
@@ -89,12 +88,12 @@ module _ (H : LevelsAndLegs) (x : Search) (u : IsUnderway H x) (off : x.stalls �
         let node : get_or nodes h.0 0 ≡ v = ap (λ (e : ℕ × Cost). e.0) is in
         let has : Contains nodes v = subst (Contains nodes) node (Contains-get_or nodes h.0 0 low) in
         let cost : unwrap_or (cost_at (costs_of H x) v) no_cost ≡ c =
-        ap (λ q. unwrap_or (cost_at (costs_of H x) q) no_cost) (sym node) ∙ ap (λ (e : ℕ × Cost). e.1) is in
+        ap (λ w. unwrap_or (cost_at (costs_of H x) w) no_cost) (sym node) ∙ ap (λ (e : ℕ × Cost). e.1) is in
         let known : cost_at (costs_of H x) v ≡ Some c = some_known _ (reached v has) ∙ ap Some cost in
-        (known_least _ _ _ _ _ u.search (never_idle H x off) done v c known, most.sound c.weight (u.search.light v c known));
+        (known_least _ _ _ _ _ u.search (never_idle H q off) done v c known, most.sound c.weight (u.search.light v c known));
     whole = λ v c h low.
         let n = size in
-        let known = least_known _ _ _ _ _ u.search (never_idle H x off) done v c h (most.whole c.weight h.weight low) in
+        let known = least_known _ _ _ _ _ u.search (never_idle H q off) done v c h (most.whole c.weight h.weight low) in
         let has = all v (ap is_some known) in
         let low : has.0 < length (map (entry (costs_of H x)) nodes) = (let lt = has.1 in omega arith) in
         let node : get_or nodes has.0 0 ≡ v = sym (get_or_default nodes has.0 v 0 has.1) ∙ has.2 in
@@ -106,13 +105,11 @@ empty_by_node : (H : LevelsAndLegs) (x : Search) → IsEmpty x.queue → IsEmpty
 empty_by_node H x done v c e = done (rank_of H v) c (by_node-some H x.queue v c e).1
 
 -- the spread of a search that has ended without stalling
-pub spread_of : (H : LevelsAndLegs) (x : Search) (nodes : List ℕ) (s : ℕ) (side : Side) (limit : Option ℕ) → IsMost limit x.most →
-    IsUnderway H x → x.stalls ≡ false → x.source ≡ s → x.side ≡ side →
-    IsEmpty x.queue → AreReached (costs_of H x) nodes → IsSpread (rows_of H side) limit s (map (entry (costs_of H x)) nodes)
-spread_of H x nodes s side limit most u off source is done a =
-    let spread = spread_is H x u off (empty_by_node H x done) limit most nodes a.order a.sound a.whole in
-    let from_source = subst (λ q. IsSpread (rows_of H x.side) limit q (map (entry (costs_of H x)) nodes)) source spread in
-    subst (λ q. IsSpread (rows_of H q) limit s (map (entry (costs_of H x)) nodes)) is from_source
+pub spread_of : (H : LevelsAndLegs) (q : Question) (x : Search) (nodes : List ℕ) (limit : Option ℕ) → IsMost limit q.most →
+    IsUnderway H q x → q.stalls ≡ false → IsEmpty x.queue → AreReached (costs_of H x) nodes →
+    IsSpread (rows_of H q.side) limit q.source (map (entry (costs_of H x)) nodes)
+spread_of H q x nodes limit most u off done a =
+    spread_is H q x u off (empty_by_node H x done) limit most nodes a.order a.sound a.whole
 
 -- the touched nodes, once sorted, are the reached nodes
 module _ (H : LevelsAndLegs) (k : IsLevelled H) (x : Search) (t : IsTouched x.labels.costs x.touched) (nodes sorted : List ℕ)

@@ -1,6 +1,5 @@
 -- Tight nodes, which are on least ways. A search that stalls reaches each of them at its least cost.
-use Rattle.std.proofs.Common.{◌≡◌, ℕ, ◌≤◌, true, sym, ◌∙◌, subst, arith}
-use Rattle.ch_graph.specs.declared.limits.TheConstants.{MOST_WEIGHT}
+use Rattle.std.proofs.Common.{◌≡◌, ℕ, sym, ◌∙◌, subst}
 use Rattle.ch_graph.specs.declared.cost.Cost.{Cost}
 use Rattle.ch_graph.specs.Cost.{cost_sum}
 use Rattle.ch_graph.specs.Walk.{IsLeast}
@@ -17,14 +16,15 @@ use Rattle.ch_hierarchy.specs.declared.side.Side.TheVariants.{Up, Down}
 use Rattle.ch_hierarchy.specs.Side.{rows_of, other}
 use Rattle.ch_hierarchy.proofs.theory.KeptWalks.{kept_has_walks, meetings_are_distances}
 use Rattle.ch_hierarchy.proofs.theory.Turned.{walk_turned, turned_limits, turned_meeting, turned_kept}
-use Rattle.ch_query.specs.ByNode.{costs_of, keys_of}
+use Rattle.ch_query.specs.ByNode.{keys_of}
 use Rattle.ch_query.specs.declared.sides.search.Search.{Search}
 use Rattle.ch_query.specs.Covering.{IsPastCost}
 use Rattle.ch_query.specs.Descents.{HasReached}
 use Rattle.ch_query.specs.Distance.{IsKeptForSome}
-use Rattle.ch_query.specs.Search.{IsSettled, IsUpwardCost, IsStalled, AvoidsIdle}
+use Rattle.ch_query.specs.Questions.{stalling}
+use Rattle.ch_query.specs.Search.{IsUpwardCost, IsStalled, AvoidsIdle}
 use Rattle.ch_query.specs.SearchSpace.{IsTight}
-use Rattle.ch_query.specs.Underway.{back_of, idle_of, IsUnderway}
+use Rattle.ch_query.specs.Underway.{IsUnderway}
 use Rattle.ch_query.proofs.one_side.End.{settled_least}
 use Rattle.ch_query.proofs.one_side.Expanding.{reached_by_leg}
 use Rattle.ch_query.proofs.one_side.PathLaws.{below_then, below_sum}
@@ -103,27 +103,16 @@ pub tight_least : (H : LevelsAndLegs) (side : Side) (s m : ℕ) (c : Cost) → I
 tight_least H Up s m c tight = tight.0
 tight_least H Down s m c tight = tight.0
 
--- a search that stalls, and a node that is tight for it
-module _ (H : LevelsAndLegs) (k : IsKeptForSome H) (x : Search) (u : IsUnderway H x) (on : x.stalls ≡ true) (m : ℕ) (a : Cost)
-    (tight : IsTight H x.side x.source m a) where
-  -- it stalls at no node on a path to the tight node of least cost
-  avoids : AvoidsIdle (rows_of H x.side) (idle_of H x) m a
-  avoids = subst (λ b. AvoidsIdle (rows_of H x.side) (IsStalled (rows_of H x.side) (back_of H x.side b) x.source) m a) (sym on)
-      (tight_avoids H k x.side x.source m a tight)
-
-  -- once each remaining key is more, the tight node is settled at that cost
-  tight_settled : a.weight ≤ x.most → IsPastCost (keys_of H x) a → IsSettled (costs_of H x) (keys_of H x) m a
-  tight_settled low past = settled_least _ _ _ _ _ u.search m a low past avoids (tight_least H x.side x.source m a tight)
-
-  -- the search has reached the tight node
-  pub tight_reached : x.most ≡ MOST_WEIGHT → IsPastCost (keys_of H x) a → HasReached H x m a
-  tight_reached most past =
-      let least = tight_least H x.side x.source m a tight in
-      record {
-        underway = u;
-        known = (tight_settled (let light = least.weight in omega arith) past).0;
-        least = least;
-        past =
-            past;
-        avoids = avoids;
-      }
+-- once each remaining key is more, a search that stalls has reached a tight node. It stalls at no node on a least path there
+pub tight_reached : (H : LevelsAndLegs) → IsKeptForSome H → (side : Side) (s : ℕ) (x : Search) → IsUnderway H (stalling side s) x →
+    (m : ℕ) (a : Cost) → IsTight H side s m a → IsPastCost (keys_of H x) a → HasReached H (stalling side s) x m a
+tight_reached H k side s x u m a tight past =
+    let least = tight_least H side s m a tight in
+    let avoids = tight_avoids H k side s m a tight in
+    record {
+      underway = u;
+      known = (settled_least _ _ _ _ _ u.search m a least.weight past avoids least).0;
+      least = least;
+      past = past;
+      avoids = avoids;
+    }

@@ -15,7 +15,7 @@ use Rattle.ch_hierarchy.specs.Side.{rows_of}
 use Rattle.ch_hierarchy.proofs.code.Ranked.{rank_below, rank_one}
 use Rattle.ch_query.specs.declared.routes.unpacking.PendingLeg.{PendingLeg}
 use Rattle.ch_query.specs.declared.weights.marked.TheConstants.{TIED}
-use Rattle.ch_query.specs.Descents.{pending_of, IsTracedOn}
+use Rattle.ch_query.specs.Descents.{pending_of, IsTraced}
 use Rattle.ch_query.specs.Distance.{IsKeptForSome}
 use Rattle.ch_query.specs.Marks.{Allows, mark_of, LeadBack, HasWayBack}
 use Rattle.ch_query.specs.Parents.{IsChosen}
@@ -51,7 +51,7 @@ untied mark rank ne (inr is) = is
 module _ (H : LevelsAndLegs) (k : IsKeptForSome H) (side : Side) (s m x most : ℕ) (marks : List ℕ) (back : LeadBack H side s most marks)
     (old legs : List PendingLeg) (t : IsPartlyBack H side s m x most old legs) where
   -- at the source the way back is complete
-  pub back_ends : x ≡ s → IsTracedOn H side s m old legs
+  pub back_ends : x ≡ s → IsTraced H side s m old legs
   back_ends is = record {
     steps = t.done;
     descent = subst (IsDescent (rows_of H side) s m) (append-nil t.done) (t.descent [] is);

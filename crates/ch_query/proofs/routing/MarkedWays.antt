@@ -15,7 +15,7 @@ use Rattle.ch_hierarchy.proofs.theory.KeptWalks.{meetings_are_distances}
 use Rattle.ch_query.specs.declared.routes.unpacking.PendingLeg.{PendingLeg}
 use Rattle.ch_query.specs.declared.weights.marked.LeastSum.{LeastSum}
 use Rattle.ch_query.specs.declared.weights.marked.TheConstants.{TIED}
-use Rattle.ch_query.specs.Descents.{IsTracedOn}
+use Rattle.ch_query.specs.Descents.{IsTraced}
 use Rattle.ch_query.specs.Distance.{IsKeptForSome}
 use Rattle.ch_query.specs.Marks.{HasWayBack, IsMarkedWay}
 use Rattle.ch_query.specs.Ways.{AreWayLegs}
@@ -24,7 +24,7 @@ use Rattle.ch_query.proofs.one_side.Expanding.{leg_up}
 use Rattle.ch_query.proofs.one_side.TightBefore.{ends_with}
 use Rattle.ch_query.proofs.one_side.TightNodes.{tight_up, tight_down}
 use Rattle.ch_query.proofs.routing.MarkedSteps.{untied}
-use Rattle.ch_query.proofs.routing.RouteArcs.{route_traced, traced_pending_on, traced_arcs_on, turned_pending, turned_arcs}
+use Rattle.ch_query.proofs.routing.RouteArcs.{route_traced, traced_pending, traced_arcs, turned_pending, turned_arcs}
 
 -- a node where two paths meet is a node of the hierarchy
 meeting_within : (H : LevelsAndLegs) → IsKeptForSome H → (s t n : ℕ) (d : Cost) → t < nodes_of H → IsMeeting H s t n d → n < nodes_of H
@@ -102,22 +102,22 @@ module _ (H : LevelsAndLegs) (k : IsKeptForSome H) (s t : ℕ) (marks : List ℕ
         )
 
     -- the legs of both ways back are those of the route
-    pub marked_legs : (none fallen turned all : List PendingLeg) → none ≡ [] → IsTracedOn H Down t node none fallen →
+    pub marked_legs : (none fallen turned all : List PendingLeg) → none ≡ [] → IsTraced H Down t node none fallen →
         IsPermutation fallen turned → turned ≡ reverse fallen →
-        IsTracedOn H Up s node turned all → (cost : Cost) × (cost.weight ≡ least.weight) × AreWayLegs H s t cost all
+        IsTraced H Up s node turned all → (cost : Cost) × (cost.weight ≡ least.weight) × AreWayLegs H s t cost all
     marked_legs none fallen turned all empty fall_by turn turn_is rise =
         let law = meetings_are_distances k.0 H k.1 k.2 in
-        let fall = subst (λ old. IsTracedOn H Down t node old fallen) empty fall_by in
-        let down = traced_arcs_on H Down t node meet.meets.1 meet.meets.3 [] fallen fall in
-        let up = traced_arcs_on H Up s node meet.meets.0 meet.meets.2 turned all rise in
+        let fall = subst (λ old. IsTraced H Down t node old fallen) empty fall_by in
+        let down = traced_arcs H Down t node meet.meets.1 meet.meets.3 [] fallen fall in
+        let up = traced_arcs H Up s node meet.meets.0 meet.meets.2 turned all rise in
         let same = turned_arcs fallen turned turn in
         let sum = ap (λ (q : Cost). q.arcs) meet.meets.4 in
         let nodes = k.2.nodes in (
           cost,
           (w.some known).2,
           record {
-            pending = traced_pending_on H Up s node turned all rise (turned_pending H fallen turned turn
-                (traced_pending_on H Down t node [] fallen fall (λ p has. absurd (let lt = has.1 in omega arith))));
+            pending = traced_pending H Up s node turned all rise (turned_pending H fallen turned turn
+                (traced_pending H Down t node [] fallen fall (λ p has. absurd (let lt = has.1 in omega arith))));
             arcs = omega arith;
             few = (let few = IsLeast-arcs k.0 s t cost k.1 (omega arith) ((law.least s t cost).1 (w.some known).1) in omega arith);
             route = route_traced H s t node cost meet fallen turned all fall turn_is rise;

@@ -18,6 +18,7 @@ use Rattle.ch_query.specs.declared.routes.unpacking.PendingLeg.{PendingLeg}
 use Rattle.ch_query.specs.Distance.{IsKeptForSome}
 use Rattle.ch_query.specs.TwoSided.{IsPast}
 use Rattle.ch_query.specs.Meeting.{AreMeeting}
+use Rattle.ch_query.specs.Questions.{stalling}
 use Rattle.ch_query.specs.Routes.{IsRoute, IsRouteBy}
 use Rattle.ch_query.specs.Descents.{HasReached, HasReachedWithRoom, IsTraced}
 use Rattle.ch_query.specs.Unpacking.{ArePending, pending_arcs}
@@ -25,7 +26,7 @@ use Rattle.ch_query.specs.Ways.{AreLegsFound, AreLegsOver, AreWayLegs, IsRouteOf
 use Rattle.ch_query.proofs.two_sides.Distances.{meet_is_least}
 use Rattle.ch_query.proofs.two_sides.LeastMeeting.{reached}
 use Rattle.ch_query.proofs.routing.PendingLegs.{pending_few, pending_unpacked}
-use Rattle.ch_query.proofs.routing.RouteArcs.{route_found, traced_pending, traced_arcs, turned_pending, turned_arcs}
+use Rattle.ch_query.proofs.routing.RouteArcs.{route_traced, traced_pending, traced_arcs, turned_pending, turned_arcs}
 use Rattle.ch_query.proofs.routing.RouteWalks.{route_least_walk}
 
 -- the answer is the route over the meet, or none if there is no meet
@@ -52,23 +53,19 @@ module _ (H : LevelsAndLegs) (s t : ℕ) where
   Few : Option Route → Type 0
   Few answer = MatchOption answer ⊤ (λ route. length route.arcs < nodes_of H)
 
-  module _ (s' t' : ℕ) (from : s' ≡ s) (to : t' ≡ t) (r : Result (Option Route) AllocError) (found : IfOk r (FindsRoute H s' t')) where
-    -- the same for the nodes where the searches began
-    finds : IfOk r (FindsRoute H s t)
-    finds = subst (λ q. IfOk r (FindsRoute H q t)) from (subst (λ q. IfOk r (FindsRoute H s' q)) to found)
+  -- the answer is a least walk
+  pub found_walks : (r : Result (Option Route) AllocError) → IfOk r (FindsRoute H s t) → IfOk r (IsRouteBy H s t)
+  found_walks r = IfOk-weaker r (FindsRoute H s t) (IsRouteBy H s t) finds_walks
 
-    -- the answer is a least walk
-    pub found_walks : IfOk r (IsRouteBy H s t)
-    found_walks = IfOk-weaker r (FindsRoute H s t) (IsRouteBy H s t) finds_walks finds
-
-    pub found_few : IsKeptForSome H → t < nodes_of H → IfOk r (λ answer. MatchOption answer ⊤ (λ route. length route.arcs < nodes_of H))
-    unfolding Few
-    found_few k within = IfOk-weaker r (FindsRoute H s t) Few (λ answer f. subst Few (sym f.1) (route_few k within f.0 f.2)) finds
+  pub found_few : IsKeptForSome H → t < nodes_of H → (r : Result (Option Route) AllocError) → IfOk r (FindsRoute H s t) →
+      IfOk r (λ answer. MatchOption answer ⊤ (λ route. length route.arcs < nodes_of H))
+  unfolding Few
+  found_few k within r = IfOk-weaker r (FindsRoute H s t) Few (λ answer f. subst Few (sym f.1) (route_few k within f.0 f.2))
 
 -- the conditions of each call after the meet was found
-module _ (H : LevelsAndLegs) (k : IsKeptForSome H) (x y : Search) (m : ℕ) (c : Cost) (meeting : AreMeeting H x y (Some (c, m)))
-    (past : IsPast x.queue (Some (c, m)) × IsPast y.queue (Some (c, m))) (sides : (x.side ≡ Up) × (y.side ≡ Down))
-    (meet : IsMeet H x.source y.source m c)
+module _ (H : LevelsAndLegs) (k : IsKeptForSome H) (s t : ℕ) (x y : Search) (m : ℕ) (c : Cost)
+    (meeting : AreMeeting H (stalling Up s) (stalling Down t) x y (Some (c, m)))
+    (past : IsPast x.queue (Some (c, m)) × IsPast y.queue (Some (c, m))) (meet : IsMeet H s t m c)
     (start : Vec PendingLeg Global) (none : start.items ≡ []) (len : vec_len start ≡ 0) (wide : c.arcs ≤ vec_capacity start) where
   -- the cost of the way up to the meet
   up : Cost
@@ -84,31 +81,31 @@ module _ (H : LevelsAndLegs) (k : IsKeptForSome H) (x y : Search) (m : ℕ) (c :
   both = ap (λ (q : Cost). q.arcs) meet.meets.4
 
   -- both searches have reached the meet
-  reached_both : HasReached H x m up × HasReached H y m down
+  reached_both : HasReached H (stalling Up s) x m up × HasReached H (stalling Down t) y m down
   unfolding up down
   reached_both =
-      reached H k x y (Some (c, m)) meeting sides.0 sides.1 past.0 past.1 c (meet_is_least H x.source y.source m c meet) m meet.meets
+      reached H k s t x y (Some (c, m)) meeting past.0 past.1 c (meet_is_least H s t m c meet) m meet.meets
 
   -- there is room for the way back to the end
-  pub room_down : HasReachedWithRoom H y m start
+  pub room_down : HasReachedWithRoom H (stalling Down t) y m start
   room_down = (down, reached_both.1, let sum = both in omega arith)
 
-  module _ (fallen turned : Vec PendingLeg Global) (fall : IsTraced H y m start.items fallen.items)
+  module _ (fallen turned : Vec PendingLeg Global) (fall : IsTraced H Down t m start.items fallen.items)
       (same : vec_capacity fallen ≡ vec_capacity start)
       (turn : IsPermutation fallen.items turned.items) (long : vec_len turned ≡ vec_len fallen)
       (same' : vec_capacity turned ≡ vec_capacity fallen) where
     -- the legs of the way back to the end are legs of the hierarchy
     fallen_pending : ArePending H fallen.items
-    fallen_pending = traced_pending H y m down reached_both.1 start.items fallen.items fall
+    fallen_pending = traced_pending H Down t m start.items fallen.items fall
         (λ p has. absurd (let e = ap length none in let lt = has.1 in omega arith))
 
     -- these legs stand for as many arcs as the way down has
     fallen_arcs : pending_arcs fallen.items ≡ down.arcs
-    fallen_arcs = let sum = traced_arcs H y m down reached_both.1 start.items fallen.items fall in
+    fallen_arcs = let sum = traced_arcs H Down t m down reached_both.1.least start.items fallen.items fall in
         let nothing = ap pending_arcs none in omega arith
 
     -- there is room for the way back to the start
-    pub room_up : HasReachedWithRoom H x m turned
+    pub room_up : HasReachedWithRoom H (stalling Up s) x m turned
     room_up = (
       up,
       reached_both.0,
@@ -116,29 +113,29 @@ module _ (H : LevelsAndLegs) (k : IsKeptForSome H) (x y : Search) (m : ℕ) (c :
           omega arith,
     )
 
-    module _ (all : Vec PendingLeg Global) (rise : IsTraced H x m turned.items all.items)
+    module _ (all : Vec PendingLeg Global) (rise : IsTraced H Up s m turned.items all.items)
         (same'' : vec_capacity all ≡ vec_capacity turned) where
       -- all pending legs are legs of the hierarchy
       pub all_pending : ArePending H all.items
-      all_pending = traced_pending H x m up reached_both.0 turned.items all.items rise
+      all_pending = traced_pending H Up s m turned.items all.items rise
           (turned_pending H fallen.items turned.items turn fallen_pending)
 
       -- they stand for as many arcs as the route has
       all_arcs : pending_arcs all.items ≡ c.arcs
       all_arcs =
-          let rising = traced_arcs H x m up reached_both.0 turned.items all.items rise in
+          let rising = traced_arcs H Up s m up reached_both.0.least turned.items all.items rise in
           let falling = turned_arcs fallen.items turned.items turn in
           let down_is = fallen_arcs in
           let sum = both in omega arith
 
       -- they are the legs of the route
-      pub legs_over_meet : turned.items ≡ reverse fallen.items → AreLegsOver H x.source y.source c all
+      pub legs_over_meet : turned.items ≡ reverse fallen.items → AreLegsOver H s t c all
       legs_over_meet turn_is = record {
         pending = all_pending;
         arcs = all_arcs;
         room = omega arith;
-        route = λ arcs are. route_found H x y sides.0 sides.1 m c meet fallen.items turned.items all.items
-            (subst (λ old. IsTraced H y m old fallen.items) none fall) turn_is rise arcs are;
+        route = λ arcs are. route_traced H s t m c meet fallen.items turned.items all.items
+            (subst (λ old. IsTraced H Down t m old fallen.items) none fall) turn_is rise arcs are;
       }
 
 -- the arcs of the legs of a way are the route

@@ -13,11 +13,10 @@ use Rattle.ch_hierarchy.specs.Paths.{IsLeastUpwardPath, IsMeet}
 use Rattle.ch_hierarchy.specs.declared.side.Side.{Side}
 use Rattle.ch_hierarchy.specs.declared.side.Side.TheVariants.{Up, Down}
 use Rattle.ch_hierarchy.specs.Side.{rows_of}
-use Rattle.ch_query.specs.declared.sides.search.Search.{Search}
 use Rattle.ch_query.specs.declared.routes.unpacking.PendingLeg.{PendingLeg}
 use Rattle.ch_query.specs.Routes.{DescentStep, IsDescent, AreUpArcs, AreDownArcs, IsRoute}
 use Rattle.ch_query.specs.Unpacking.{IsPending, ArePending, pending_arcs, ArePendingArcs}
-use Rattle.ch_query.specs.Descents.{HasReached, pending_of, IsTraced, IsTracedOn}
+use Rattle.ch_query.specs.Descents.{pending_of, IsTraced}
 use Rattle.ch_query.proofs.routing.DescentLaws.{steps_cost, descent_cost}
 use Rattle.ch_query.proofs.routing.DescentSteps.{step_pending, step_arcs}
 use Rattle.ch_query.proofs.routing.PendingLegs.{pending_arcs_append, pending_arcs_pop}
@@ -39,38 +38,24 @@ steps_arcs side (step ∷ steps) =
     let two = sum_by-cons (λ (k : Leg). k.cost.arcs) step.leg (map (λ (s : DescentStep). s.leg) steps) in
     omega arith
 
--- a way back of a search is one for its side and its source
-on_side : (H : LevelsAndLegs) (x : Search) (m : ℕ) (old new : List PendingLeg) → IsTraced H x m old new →
-    IsTracedOn H x.side x.source m old new
-on_side H x m old new t = record { steps = t.steps; descent = t.descent; pushed = t.pushed }
-
 -- a way back appends legs of the hierarchy
-pub traced_pending_on : (H : LevelsAndLegs) (side : Side) (s m : ℕ) (old new : List PendingLeg) → IsTracedOn H side s m old new →
+pub traced_pending : (H : LevelsAndLegs) (side : Side) (s m : ℕ) (old new : List PendingLeg) → IsTraced H side s m old new →
     ArePending H old → ArePending H new
-traced_pending_on H side s m old new t are = subst (ArePending H) (sym t.pushed)
+traced_pending H side s m old new t are = subst (ArePending H) (sym t.pushed)
     (λ p has. elim (Contains-append_cases old (map (pending_of side) t.steps) p has) [
       | inl before ↦ are p before
       | inr after ↦ steps_pending H side s m t.steps t.descent p after
     ])
 
 -- they stand for as many arcs as the least cost of the meet has
-pub traced_arcs_on : (H : LevelsAndLegs) (side : Side) (s m : ℕ) (c : Cost) → IsLeastUpwardPath (rows_of H side) s m c →
-    (old new : List PendingLeg) → IsTracedOn H side s m old new → pending_arcs new ≡ pending_arcs old + c.arcs
-traced_arcs_on H side s m c least old new t =
+pub traced_arcs : (H : LevelsAndLegs) (side : Side) (s m : ℕ) (c : Cost) → IsLeastUpwardPath (rows_of H side) s m c →
+    (old new : List PendingLeg) → IsTraced H side s m old new → pending_arcs new ≡ pending_arcs old + c.arcs
+traced_arcs H side s m c least old new t =
     let all = ap pending_arcs t.pushed in
     let parts = sum_by-append (λ (p : PendingLeg). p.cost.arcs) old (map (pending_of side) t.steps) in
     let steps = steps_arcs side t.steps in
     let cost = ap (λ (q : Cost). q.arcs) (descent_cost (rows_of H side) s m t.steps c t.descent least) in
     omega arith
-
--- the same for the way back of a search that has reached the meet
-module _ (H : LevelsAndLegs) (x : Search) (m : ℕ) (c : Cost) (r : HasReached H x m c) (old new : List PendingLeg)
-    (t : IsTraced H x m old new) where
-  pub traced_pending : ArePending H old → ArePending H new
-  traced_pending are = traced_pending_on H x.side x.source m old new (on_side H x m old new t) are
-
-  pub traced_arcs : pending_arcs new ≡ pending_arcs old + c.arcs
-  traced_arcs = traced_arcs_on H x.side x.source m c r.least old new (on_side H x m old new t)
 
 -- reversed, they are legs of the hierarchy
 pub turned_pending : (H : LevelsAndLegs) (old new : List PendingLeg) → IsPermutation old new → ArePending H old → ArePending H new
@@ -98,7 +83,7 @@ module _ (H : LevelsAndLegs) where
 
 -- a way up and a way down over the meet: their arcs make the route
 pub route_traced : (H : LevelsAndLegs) (s t m : ℕ) (c : Cost) → IsMeet H s t m c → (falling turned both : List PendingLeg) →
-    IsTracedOn H Down t m [] falling → turned ≡ reverse falling → IsTracedOn H Up s m turned both → (arcs : List InArc) →
+    IsTraced H Down t m [] falling → turned ≡ reverse falling → IsTraced H Up s m turned both → (arcs : List InArc) →
     ArePendingArcs H both arcs → IsRoute H s t (record { weight = c.weight; arcs = arcs })
 route_traced H s t m c meet falling turned both fall turn rise arcs are =
     let parts = pending_arcs_append H turned (map (pending_of Up) rise.steps) arcs (subst (λ q. ArePendingArcs H q arcs) rise.pushed are) in
@@ -117,13 +102,3 @@ route_traced H s t m c meet falling turned both fall turn rise arcs are =
       down_arcs = are_down_arcs H fall.steps parts.1 (subst (λ q. ArePendingArcs H q parts.1) (turn ∙ ap reverse fall.pushed) parts.3);
       arcs = parts.4;
     }
-
--- the same for the ways back of two searches
-pub route_found : (H : LevelsAndLegs) (x y : Search) → x.side ≡ Up → y.side ≡ Down → (m : ℕ) (c : Cost) →
-    IsMeet H x.source y.source m c → (falling turned both : List PendingLeg) →
-    IsTraced H y m [] falling → turned ≡ reverse falling → IsTraced H x m turned both → (arcs : List InArc) → ArePendingArcs H both arcs →
-    IsRoute H x.source y.source (record { weight = c.weight; arcs = arcs })
-route_found H x y up down m c meet falling turned both fall turn rise =
-    route_traced H x.source y.source m c meet falling turned both
-    (subst (λ q. IsTracedOn H q y.source m [] falling) down (on_side H y m [] falling fall)) turn
-    (subst (λ q. IsTracedOn H q x.source m turned both) up (on_side H x m turned both rise))

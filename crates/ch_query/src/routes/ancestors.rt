@@ -73,7 +73,7 @@ fn route_in(
 {
     let Sides { up, down } = sides;
     let answer = match meet_by_ancestors(hierarchy, up, down, start, end, ups, downs) {
-        Some((cost, node)) => route_over(alloc, hierarchy, up, down, cost, node),
+        Some(met) => route_over(alloc, hierarchy, up, down, start, end, met),
         None => Ok(None),
     };
     clean(up, down);

@@ -2,6 +2,7 @@
 ghost use Rattle.std.specs.Prelude.{◌≡◌, vec_capacity};
 ghost use Rattle.ch_query.specs.Distance.{IsKeptForSome};
 ghost use Rattle.ch_query.specs.Descents.{HasReachedWithRoom, pending_of, IsTraced};
+ghost use Rattle.ch_query.specs.Questions.{stalling};
 
 use super::legs::leg_at;
 use super::unpacking::PendingLeg;
@@ -23,19 +24,21 @@ pub(super) fn directed(side: Side, low: u32, leg: Leg) -> PendingLeg
 pub(crate) fn descend(
     hierarchy: &Hierarchy,
     search: &Search,
+    side: Side,
+    source: u32,
     meet: u32,
     pending: &mut Vec<PendingLeg>,
 )
     requires kept { IsKeptForSome hierarchy.now }
-    requires reached { HasReachedWithRoom hierarchy.now search.now meet pending.old }
-    ensures traced { IsTraced hierarchy.now search.now meet pending.old.items pending.new.items }
+    requires reached { HasReachedWithRoom hierarchy.now (stalling side source) search.now meet pending.old }
+    ensures traced { IsTraced hierarchy.now side source meet pending.old.items pending.new.items }
     ensures capacity { vec_capacity pending.new ≡ vec_capacity pending.old }
 {
     let mut node = meet;
-    while node != search.source {
+    while node != source {
         let parent = search.labels.parent(hierarchy.rank(node));
-        let leg = leg_at(hierarchy.legs(search.side, parent), node);
-        pending.push_reserved(directed(search.side, parent, leg));
+        let leg = leg_at(hierarchy.legs(side, parent), node);
+        pending.push_reserved(directed(side, parent, leg));
         node = parent;
     }
 }

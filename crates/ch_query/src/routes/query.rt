@@ -7,6 +7,7 @@ ghost use Rattle.ch_query.specs.declared.routes.Route.{Route as FoundRoute};
 ghost use Rattle.ch_query.specs.TwoSided.{IsPast};
 ghost use Rattle.ch_query.specs.Underway.{IsRoom, IsClean};
 ghost use Rattle.ch_query.specs.Meeting.{AreMeeting};
+ghost use Rattle.ch_query.specs.Questions.{stalling};
 ghost use Rattle.ch_query.specs.Distance.{IsKeptForSome};
 ghost use Rattle.ch_query.specs.Routes.{IsRoute, IsRouteBy};
 ghost use Rattle.ch_query.specs.Unpacking.{ArePending, pending_arcs};
@@ -123,7 +124,7 @@ pub(crate) fn route_in(
 {
     let Sides { up, down } = sides;
     let answer = match meet(hierarchy, up, down, start, end) {
-        Some((cost, node)) => route_over(alloc, hierarchy, up, down, cost, node),
+        Some(met) => route_over(alloc, hierarchy, up, down, start, end, met),
         None => Ok(None),
     };
     clean(up, down);
@@ -133,8 +134,8 @@ pub(crate) fn route_in(
 /// Leaves both sides clean for the next query.
 pub(crate) fn clean(up: &mut Search, down: &mut Search)
     requires rooms { IsRoom up.old × IsRoom down.old }
-    ensures up { IsClean (length up.old.labels.costs) up.new × (up.new.side ≡ up.old.side) }
-    ensures down { IsClean (length down.old.labels.costs) down.new × (down.new.side ≡ down.old.side) }
+    ensures up { IsClean (length up.old.labels.costs) up.new }
+    ensures down { IsClean (length down.old.labels.costs) down.new }
 {
     up.clean();
     down.clean();
@@ -146,18 +147,19 @@ pub(super) fn route_over(
     hierarchy: &Hierarchy,
     up: &Search,
     down: &Search,
-    cost: Cost,
-    node: u32,
+    start: u32,
+    end: u32,
+    met: (Cost, u32),
 ) -> Result<Option<Route>, AllocError>
     requires kept { IsKeptForSome hierarchy.now }
-    requires meeting { AreMeeting hierarchy.now up.now down.now (Some (cost, node)) }
-    requires past { IsPast up.now.queue (Some (cost, node)) × IsPast down.now.queue (Some (cost, node)) }
-    requires sides { (up.now.side ≡ Up) × (down.now.side ≡ Down) }
-    requires meet { IsMeet hierarchy.now up.now.source down.now.source node cost }
-    ensures route { IfOk result (λ answer. (route : FoundRoute) × (answer ≡ Some route) × IsRoute hierarchy.now up.now.source down.now.source route) }
+    requires meeting { AreMeeting hierarchy.now (stalling Up start) (stalling Down end) up.now down.now (Some met) }
+    requires past { IsPast up.now.queue (Some met) × IsPast down.now.queue (Some met) }
+    requires meet { IsMeet hierarchy.now start end met.1 met.0 }
+    ensures route { IfOk result (λ answer. (route : FoundRoute) × (answer ≡ Some route) × IsRoute hierarchy.now start end route) }
 {
     let mut pending = Vec::new(alloc);
-    legs_over(hierarchy, up, down, cost, node, &mut pending)?;
+    legs_over(hierarchy, up, down, start, end, met, &mut pending)?;
+    let (cost, _) = met;
     let mut arcs = Vec::with_capacity(alloc, cost.arcs as usize)?;
     unpack(hierarchy, &mut pending, &mut arcs);
     Ok(Some(Route {

@@ -2,7 +2,7 @@
 //! route, whatever the rules of choice are.
 ghost use Rattle.std.specs.Prelude.{◌≡◌, ◌*◌, ◌<◌, length, true, [], IfOk};
 ghost use Rattle.ch_hierarchy.specs.Hierarchy.{nodes_of};
-ghost use Rattle.ch_query.specs.Descents.{IsTracedOn};
+ghost use Rattle.ch_query.specs.Descents.{IsTraced};
 ghost use Rattle.ch_query.specs.Distance.{IsKeptForSome};
 ghost use Rattle.ch_query.specs.Marks.{HasWayBack, IsMarkedWay};
 ghost use Rattle.ch_query.specs.Ways.{IsFirstTry};
@@ -100,7 +100,7 @@ fn descend_marked(
     requires kept { IsKeptForSome hierarchy.now }
     requires count { length marks.now ≡ 2 * nodes_of hierarchy.now }
     requires back { HasWayBack hierarchy.now side source meet marks.now }
-    ensures { IfOk result (λ is_unique. is_unique ≡ true → IsTracedOn hierarchy.now side source meet legs.old.items legs.new.items) }
+    ensures { IfOk result (λ is_unique. is_unique ≡ true → IsTraced hierarchy.now side source meet legs.old.items legs.new.items) }
 {
     let mut node = meet;
     while node != source {

@@ -5,6 +5,7 @@ ghost use Rattle.ch_hierarchy.specs.Paths.{IsMeet};
 ghost use Rattle.ch_hierarchy.specs.declared.side.Side.TheVariants.{Up, Down};
 ghost use Rattle.ch_query.specs.TwoSided.{IsPast};
 ghost use Rattle.ch_query.specs.Meeting.{AreMeeting};
+ghost use Rattle.ch_query.specs.Questions.{stalling};
 ghost use Rattle.ch_query.specs.Distance.{IsKeptForSome};
 ghost use Rattle.ch_query.specs.Ways.{AreLegsFound, AreLegsOver, IsFirstTry};
 
@@ -17,7 +18,7 @@ use crate::sides::Sides;
 use crate::sides::meeting::meet;
 use crate::sides::search::Search;
 use ch_graph::Cost;
-use ch_hierarchy::Hierarchy;
+use ch_hierarchy::{Hierarchy, Side};
 use std::alloc::{AllocError, Global};
 
 /// Lists the legs of the route from `start` to `end`, from the last one to the first, and says whether there is a walk.
@@ -129,7 +130,7 @@ fn route_legs_in(
     let Sides { up, down } = sides;
     legs.clear();
     let found = match meet(hierarchy, up, down, start, end) {
-        Some((cost, node)) => match legs_over(hierarchy, up, down, cost, node, legs) {
+        Some(met) => match legs_over(hierarchy, up, down, start, end, met, legs) {
             Ok(()) => Ok(true),
             Err(refused) => Err(refused),
         },
@@ -144,21 +145,22 @@ pub(crate) fn legs_over(
     hierarchy: &Hierarchy,
     up: &Search,
     down: &Search,
-    cost: Cost,
-    node: u32,
+    start: u32,
+    end: u32,
+    met: (Cost, u32),
     legs: &mut Vec<PendingLeg>,
 ) -> Result<(), AllocError>
     requires kept { IsKeptForSome hierarchy.now }
-    requires meeting { AreMeeting hierarchy.now up.now down.now (Some (cost, node)) }
-    requires past { IsPast up.now.queue (Some (cost, node)) × IsPast down.now.queue (Some (cost, node)) }
-    requires sides { (up.now.side ≡ Up) × (down.now.side ≡ Down) }
-    requires meet { IsMeet hierarchy.now up.now.source down.now.source node cost }
+    requires meeting { AreMeeting hierarchy.now (stalling Up start) (stalling Down end) up.now down.now (Some met) }
+    requires past { IsPast up.now.queue (Some met) × IsPast down.now.queue (Some met) }
+    requires meet { IsMeet hierarchy.now start end met.1 met.0 }
     requires empty { legs.old.items ≡ [] }
-    ensures legs { OnOk result (AreLegsOver hierarchy.now up.now.source down.now.source cost legs.new) }
+    ensures legs { OnOk result (AreLegsOver hierarchy.now start end met.0 legs.new) }
 {
+    let (cost, node) = met;
     legs.reserve(cost.arcs as usize)?;
-    descend(hierarchy, down, node, legs);
+    descend(hierarchy, down, Side::Down, end, node, legs);
     legs.reverse();
-    descend(hierarchy, up, node, legs);
+    descend(hierarchy, up, Side::Up, start, node, legs);
     Ok(())
 }

@@ -1,23 +1,27 @@
 //! Searches without a queue: they take the legs of the ancestors of the source, from the lowest to the highest.
-ghost use Rattle.std.specs.Prelude.{◌≡◌, ◌+◌, ◌^◌, ◌<◌, ◌≤◌, length, slice_index, slice_set, Some, true, MatchOption};
+ghost use Rattle.std.specs.Prelude.{◌≡◌, ◌+◌, ◌^◌, ◌<◌, ◌≤◌, ℕ, List, length, slice_index, slice_set, Some, MatchOption, All};
 ghost use Rattle.ch_graph.specs.declared.limits.TheConstants.{MOST_WEIGHT};
 ghost use Rattle.ch_graph.specs.Cost.{cost_at};
 ghost use Rattle.ch_hierarchy.specs.Hierarchy.{nodes_of, IsLevelled};
 ghost use Rattle.ch_hierarchy.specs.Paths.{IsMeet, NeverMeets};
 ghost use Rattle.ch_hierarchy.specs.Ranked.{rank_of};
+ghost use Rattle.ch_hierarchy.specs.declared.side.Side.{Side as AnySide};
 ghost use Rattle.ch_hierarchy.specs.declared.side.Side.TheVariants.{Up, Down};
+ghost use Rattle.ch_query.specs.declared.question.Question.{Question as AnyQuestion};
 ghost use Rattle.ch_query.specs.ByNode.{costs_of};
 ghost use Rattle.ch_query.specs.Climbs.{AreAncestors, IsClimbing, IsUnqueued, Takes};
 ghost use Rattle.ch_query.specs.Distance.{IsKeptForSome};
 ghost use Rattle.ch_query.specs.Meeting.{AreMeeting};
+ghost use Rattle.ch_query.specs.Questions.{stalling};
 ghost use Rattle.ch_query.specs.TwoSided.{IsPast};
-ghost use Rattle.ch_query.specs.Underway.{leg_of_ranked, IsClean, IsSameSearch, IsTouched, IsUnderway};
+ghost use Rattle.ch_query.specs.Underway.{leg_of_ranked, IsClean, IsTouched, IsUnderway, IsUnderwayBySome};
 
 use super::meeting::met;
 use super::search::Search;
+use crate::question::Question;
 use ch_graph::Cost;
 use ch_graph::limits::MOST_WEIGHT;
-use ch_hierarchy::{Hierarchy, RankedLeg};
+use ch_hierarchy::{Hierarchy, RankedLeg, Side};
 
 impl Search {
     /// Writes the cost and the parent of the node of this rank.
@@ -31,7 +35,6 @@ impl Search {
         ensures parents { self.new.labels.parents ≡ slice_set self.old.labels.parents rank parent }
         ensures touched { IsTouched self.new.labels.costs self.new.touched }
         ensures queue { self.new.queue ≡ self.old.queue }
-        ensures same { IsSameSearch self.old self.new }
     {
         if self.labels.get(rank).is_none() {
             self.touched.push_reserved(rank);
@@ -49,7 +52,6 @@ impl Search {
         ensures takes { Takes MOST_WEIGHT self.old.labels.costs self.old.labels.parents node cost (leg_of_ranked leg) self.new.labels.costs self.new.labels.parents }
         ensures touched { IsTouched self.new.labels.costs self.new.touched }
         ensures queue { self.new.queue ≡ self.old.queue }
-        ensures same { IsSameSearch self.old self.new }
     {
         let sum = cost.plus(leg.cost());
         if sum.weight > MOST_WEIGHT {
@@ -70,52 +72,55 @@ impl Search {
     }
 
     /// Takes the legs of the ancestor at this place, if the search has reached it.
-    fn take_legs(&mut self, hierarchy: &Hierarchy, ancestors: &[u32], place: usize)
-        requires ancestors { AreAncestors hierarchy.now self.old.side self.old.source ancestors.now }
+    fn take_legs(
+        &mut self,
+        hierarchy: &Hierarchy,
+        question: Question,
+        ancestors: &[u32],
+        place: usize,
+    )
+        requires ancestors { AreAncestors hierarchy.now question.side question.source ancestors.now }
         requires place { place < length ancestors.now }
-        requires climbing { IsClimbing hierarchy.now ancestors.now place self.old }
-        ensures climbing { IsClimbing hierarchy.now ancestors.now (place + 1) self.new }
-        ensures same { IsSameSearch self.old self.new }
+        requires climbing { IsClimbing hierarchy.now question ancestors.now place self.old }
+        ensures climbing { IsClimbing hierarchy.now question ancestors.now (place + 1) self.new }
     {
         let rank = ancestors[place];
         let Some(cost) = self.labels.get(rank) else {
             return;
         };
         let node = hierarchy.node_at(rank);
-        for leg in hierarchy.ranked_legs(self.side, rank) {
+        for leg in hierarchy.ranked_legs(question.side, rank) {
             self.take_leg(node, cost, *leg);
         }
     }
 
     /// Puts the source into a clean search without a queue.
-    fn start(&mut self, hierarchy: &Hierarchy, _ancestors: &[u32], source: u32)
+    fn start(&mut self, hierarchy: &Hierarchy, source: u32)
         requires clean { IsClean (nodes_of hierarchy.now) self.old }
         requires source { source < nodes_of hierarchy.now }
-        requires ancestors { AreAncestors hierarchy.now self.old.side source _ancestors.now }
-        ensures climbing { IsClimbing hierarchy.now _ancestors.now 0 self.new }
-        ensures side { self.new.side ≡ self.old.side }
-        ensures source { self.new.source ≡ source }
+        ensures { (side : AnySide) (ancestors : List ℕ) → AreAncestors hierarchy.now side source ancestors → IsClimbing hierarchy.now (stalling side source) ancestors 0 self.new }
     {
-        self.source = source;
-        self.stalls = true;
-        self.most = MOST_WEIGHT;
         let nothing = Cost { weight: 0, arcs: 0 };
         self.label(hierarchy.rank(source), nothing, source);
     }
 
     /// Takes the legs of all ancestors of `source` in a clean search.
-    fn climb(&mut self, hierarchy: &Hierarchy, ancestors: &[u32], source: u32)
+    fn climb(&mut self, hierarchy: &Hierarchy, side: Side, source: u32, ancestors: &[u32])
         requires clean { IsClean (nodes_of hierarchy.now) self.old }
         requires source { source < nodes_of hierarchy.now }
-        requires ancestors { AreAncestors hierarchy.now self.old.side source ancestors.now }
+        requires ancestors { AreAncestors hierarchy.now side source ancestors.now }
         ensures unqueued { IsUnqueued hierarchy.now ancestors.now self.new }
-        ensures underway { IsUnderway hierarchy.now self.new }
-        ensures side { self.new.side ≡ self.old.side }
-        ensures source { self.new.source ≡ source }
+        ensures underway { IsUnderway hierarchy.now (stalling side source) self.new }
     {
-        self.start(hierarchy, ancestors, source);
+        let question = Question {
+            side,
+            source,
+            stalls: true,
+            most: MOST_WEIGHT,
+        };
+        self.start(hierarchy, source);
         for place in 0..ancestors.len() {
-            self.take_legs(hierarchy, ancestors, place);
+            self.take_legs(hierarchy, question, ancestors, place);
         }
     }
 }
@@ -127,12 +132,10 @@ fn least_met(
     down: &Search,
     ancestors: &[u32],
 ) -> Option<(Cost, u32)>
-    requires up { IsUnderway hierarchy.now up.now × IsUnqueued hierarchy.now ancestors.now up.now }
-    requires down { IsUnderway hierarchy.now down.now }
-    requires stalls { down.now.stalls ≡ true }
-    requires most { down.now.most ≡ MOST_WEIGHT }
-    requires ancestors { AreAncestors hierarchy.now up.now.side up.now.source ancestors.now }
-    ensures meeting { AreMeeting hierarchy.now up.now down.now result }
+    requires up { IsUnderwayBySome hierarchy.now up.now × IsUnqueued hierarchy.now ancestors.now up.now }
+    requires down { IsUnderwayBySome hierarchy.now down.now }
+    requires ancestors { All (λ rank. rank < nodes_of hierarchy.now) ancestors.now }
+    ensures { (question other : AnyQuestion) → IsUnderway hierarchy.now question up.now → IsUnderway hierarchy.now other down.now → AreMeeting hierarchy.now question other up.now down.now result }
 {
     let mut least = None;
     for place in 0..ancestors.len() {
@@ -158,19 +161,16 @@ pub(crate) fn meet_by_ancestors(
     downs: &[u32],
 ) -> Option<(Cost, u32)>
     requires kept { IsKeptForSome hierarchy.now }
-    requires up { IsClean (nodes_of hierarchy.now) up.old × (up.old.side ≡ Up) }
-    requires down { IsClean (nodes_of hierarchy.now) down.old × (down.old.side ≡ Down) }
+    requires clean { IsClean (nodes_of hierarchy.now) up.old × IsClean (nodes_of hierarchy.now) down.old }
     requires start { start < nodes_of hierarchy.now }
     requires end { end < nodes_of hierarchy.now }
     requires ups { AreAncestors hierarchy.now Up start ups.now }
     requires downs { AreAncestors hierarchy.now Down end downs.now }
     ensures least { MatchOption result (NeverMeets hierarchy.now start end) (λ e. IsMeet hierarchy.now start end e.1 e.0) }
-    ensures meeting { AreMeeting hierarchy.now up.new down.new result }
+    ensures meeting { AreMeeting hierarchy.now (stalling Up start) (stalling Down end) up.new down.new result }
     ensures past { IsPast up.new.queue result × IsPast down.new.queue result }
-    ensures up { (up.new.side ≡ Up) × (up.new.source ≡ start) }
-    ensures down { (down.new.side ≡ Down) × (down.new.source ≡ end) }
 {
-    up.climb(hierarchy, ups, start);
-    down.climb(hierarchy, downs, end);
+    up.climb(hierarchy, Side::Up, start, ups);
+    down.climb(hierarchy, Side::Down, end, downs);
     least_met(hierarchy, up, down, ups)
 }

@@ -1,17 +1,19 @@
 //! The trees of searches that stall, and run until no node is left.
 ghost use Rattle.std.specs.Prelude.{◌≡◌, ◌<◌, true, false, All, OnOk};
-ghost use Rattle.ch_graph.specs.declared.limits.TheConstants.{MOST_WEIGHT};
 ghost use Rattle.ch_hierarchy.specs.Hierarchy.{nodes_of};
 ghost use Rattle.ch_hierarchy.specs.Ranked.{rank_of};
 ghost use Rattle.ch_query.specs.Distance.{IsKeptForSome};
 ghost use Rattle.ch_query.specs.Meeting.{IsFresh};
 ghost use Rattle.ch_query.specs.Search.{IsEmpty};
 ghost use Rattle.ch_query.specs.SearchTree.{AreKnownNodes, AreUnstalled, IsSearchTree};
-ghost use Rattle.ch_query.specs.Underway.{count_unsettled_in, idle_of, IsClean, IsExpandingAt, IsSameSearch, IsUnderway, KeepsSettled};
+ghost use Rattle.ch_query.specs.Questions.{stalling};
+ghost use Rattle.ch_query.specs.Underway.{count_unsettled_in, idle_of, IsClean, IsExpandingAt, IsUnderway, IsUnderwayBySome, KeepsSettled};
 
 use super::search::Search;
+use crate::question::Question;
 use crate::scratch::Scratch;
 use ch_graph::Cost;
+use ch_graph::limits::MOST_WEIGHT;
 use ch_hierarchy::{Hierarchy, Side};
 use std::alloc::{AllocError, Global};
 
@@ -29,20 +31,26 @@ pub struct TreeNode {
 impl Search {
     /// Takes the legs of the node that was settled last, unless a higher node shows a cheaper way to it. Returns whether it
     /// took them.
-    fn settle_open(&mut self, hierarchy: &Hierarchy, node: u32, rank: u32, cost: Cost) -> bool
-        requires expanding { IsExpandingAt hierarchy.now self.old node cost }
+    fn settle_open(
+        &mut self,
+        hierarchy: &Hierarchy,
+        question: Question,
+        node: u32,
+        rank: u32,
+        cost: Cost,
+    ) -> bool
+        requires expanding { IsExpandingAt hierarchy.now question self.old node cost }
         requires rank { rank ≡ rank_of hierarchy.now node }
-        requires stalls { self.old.stalls ≡ true }
-        ensures underway { IsUnderway hierarchy.now self.new }
-        ensures same { IsSameSearch self.old self.new }
+        requires stalls { question.stalls ≡ true }
+        ensures underway { IsUnderway hierarchy.now question self.new }
         ensures settled { KeepsSettled hierarchy.now self.old self.new }
         ensures measure { count_unsettled_in hierarchy.now self.new ≡ count_unsettled_in hierarchy.now self.old }
-        ensures stalled { result ≡ false → idle_of hierarchy.now self.new node cost }
+        ensures stalled { result ≡ false → idle_of hierarchy.now question node cost }
     {
-        if self.is_stalled(hierarchy, node, rank, cost) {
+        if self.is_stalled(hierarchy, question, node, rank, cost) {
             return false;
         }
-        self.expand(hierarchy, node, rank, cost);
+        self.expand(hierarchy, question, node, rank, cost);
         true
     }
 
@@ -51,19 +59,19 @@ impl Search {
     fn explore_open(
         &mut self,
         hierarchy: &Hierarchy,
+        question: Question,
         found: &mut Vec<u32>,
     ) -> Result<(), AllocError>
-        requires underway { IsUnderway hierarchy.now self.old }
-        requires stalls { self.old.stalls ≡ true }
-        requires unstalled { AreUnstalled hierarchy.now self.old found.old.items }
-        ensures underway { IsUnderway hierarchy.now self.new }
-        ensures same { IsSameSearch self.old self.new }
+        requires underway { IsUnderway hierarchy.now question self.old }
+        requires stalls { question.stalls ≡ true }
+        requires unstalled { AreUnstalled hierarchy.now question self.old found.old.items }
+        ensures underway { IsUnderway hierarchy.now question self.new }
         ensures done { OnOk result (IsEmpty self.new.queue) }
-        ensures unstalled { OnOk result (AreUnstalled hierarchy.now self.new found.new.items) }
+        ensures unstalled { OnOk result (AreUnstalled hierarchy.now question self.new found.new.items) }
     {
         while let Some((cost, rank)) = self.queue.pop() {
             let node = hierarchy.node_at(rank);
-            if self.settle_open(hierarchy, node, rank, cost) {
+            if self.settle_open(hierarchy, question, node, rank, cost) {
                 found.push(rank)?;
             }
         }
@@ -77,7 +85,7 @@ impl Search {
         ranks: &[u32],
         tree: &mut Vec<TreeNode>,
     ) -> Result<(), AllocError>
-        requires underway { IsUnderway hierarchy.now self.now }
+        requires underway { IsUnderwayBySome hierarchy.now self.now }
         requires ranks { All (λ rank. rank < nodes_of hierarchy.now) ranks.now }
         ensures { OnOk result (AreKnownNodes hierarchy.now self.now ranks.now tree.new.items) }
     {
@@ -100,19 +108,24 @@ impl Search {
         &mut self,
         alloc: Global,
         hierarchy: &Hierarchy,
+        side: Side,
+        source: u32,
         tree: &mut Vec<TreeNode>,
     ) -> Result<(), AllocError>
         requires kept { IsKeptForSome hierarchy.now }
-        requires underway { IsUnderway hierarchy.now self.old }
-        requires stalls { self.old.stalls ≡ true }
-        requires most { self.old.most ≡ MOST_WEIGHT }
+        requires underway { IsUnderway hierarchy.now (stalling side source) self.old }
         requires fresh { IsFresh hierarchy.now self.old }
-        ensures underway { IsUnderway hierarchy.now self.new }
-        ensures same { IsSameSearch self.old self.new }
-        ensures tree { OnOk result (IsSearchTree hierarchy.now self.old.side self.old.source tree.new.items) }
+        ensures underway { IsUnderway hierarchy.now (stalling side source) self.new }
+        ensures tree { OnOk result (IsSearchTree hierarchy.now side source tree.new.items) }
     {
+        let question = Question {
+            side,
+            source,
+            stalls: true,
+            most: MOST_WEIGHT,
+        };
         let mut ranks = Vec::new(alloc);
-        self.explore_open(hierarchy, &mut ranks)?;
+        self.explore_open(hierarchy, question, &mut ranks)?;
         self.list_known(hierarchy, &ranks, tree)
     }
 
@@ -121,18 +134,18 @@ impl Search {
         &mut self,
         alloc: Global,
         hierarchy: &Hierarchy,
+        side: Side,
         source: u32,
         tree: &mut Vec<TreeNode>,
     ) -> Result<(), AllocError>
         requires kept { IsKeptForSome hierarchy.now }
         requires clean { IsClean (nodes_of hierarchy.now) self.old }
         requires source { source < nodes_of hierarchy.now }
-        ensures tree { OnOk result (IsSearchTree hierarchy.now self.old.side source tree.new.items) }
+        ensures tree { OnOk result (IsSearchTree hierarchy.now side source tree.new.items) }
         ensures clean { IsClean (nodes_of hierarchy.now) self.new }
-        ensures side { self.new.side ≡ self.old.side }
     {
-        self.begin(hierarchy, source, true);
-        let found = self.find_tree(alloc, hierarchy, tree);
+        self.begin(hierarchy, source);
+        let found = self.find_tree(alloc, hierarchy, side, source, tree);
         self.clean();
         found
     }
@@ -163,10 +176,7 @@ pub fn search_tree(
     ensures scratch { scratch.new ≡ scratch.old }
 {
     let mut sides = scratch.take_sides(alloc)?;
-    let grown = match side {
-        Side::Up => sides.up.grow(alloc, hierarchy, source, tree),
-        Side::Down => sides.down.grow(alloc, hierarchy, source, tree),
-    };
+    let grown = sides.up.grow(alloc, hierarchy, side, source, tree);
     scratch.put_sides(sides);
     grown
 }

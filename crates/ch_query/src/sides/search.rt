@@ -4,27 +4,20 @@ ghost use Rattle.ch_graph.specs.declared.limits.TheConstants.{MOST_WEIGHT};
 ghost use Rattle.ch_hierarchy.specs.Hierarchy.{nodes_of, IsLevelled};
 ghost use Rattle.ch_query.specs.TwoSided.{LeadsKeys};
 ghost use Rattle.ch_hierarchy.specs.Ranked.{rank_of};
-ghost use Rattle.ch_query.specs.Underway.{idle_of, count_unsettled_in, IsTouched, IsRoom, UnreachedIsUnkeyed, RelaxesByRank, IsSameSearch, IsUnderway, IsExpandingAt, KeepsSettled, IsClean};
+ghost use Rattle.ch_query.specs.declared.question.Question.{Question as AnyQuestion};
+ghost use Rattle.ch_query.specs.Underway.{idle_of, count_unsettled_in, IsTouched, IsRoom, UnreachedIsUnkeyed, RelaxesByRank, IsUnderway, IsExpandingAt, KeepsSettled, IsClean};
 ghost use Rattle.ch_query.specs.Meeting.{IsFresh};
 
 use super::labels::Labels;
+use crate::question::Question;
 use ch_graph::Cost;
-use ch_graph::limits::MOST_WEIGHT;
-use ch_hierarchy::{Hierarchy, RankedLeg, Side};
+use ch_hierarchy::{Hierarchy, RankedLeg};
 use ch_queue::KeyQueue;
 use std::alloc::{AllocError, Global};
 
 /// The state of one side of a query, and the room for it.
 #[derive(Drop)]
 pub(crate) struct Search {
-    pub(crate) side: Side,
-    pub(crate) source: u32,
-    /// Whether the search leaves a node unexpanded if a higher node shows a cheaper way to it. A spread has
-    /// to find all least paths, so it does not stall.
-    pub(crate) stalls: bool,
-    /// The most that a path may weigh. A leg that makes a path heavier is not taken, so no node that is
-    /// farther away gets a key.
-    pub(crate) most: u64,
     /// By rank of a node: its label. This has the least known cost of a path from the source, and the least
     /// numbered node before it on a path of that cost.
     ///
@@ -38,60 +31,27 @@ pub(crate) struct Search {
 
 impl Search {
     /// Makes a clean search, with room for `nodes` nodes.
-    pub(crate) fn new(alloc: Global, side: Side, nodes: u32) -> Result<Search, AllocError>
+    pub(crate) fn new(alloc: Global, nodes: u32) -> Result<Search, AllocError>
         ensures clean { IfOk result (λ x. IsClean nodes x) }
-        ensures side { IfOk result (λ x. x.side ≡ side) }
     {
         let labels = Labels::new(alloc, nodes)?;
         let queue = KeyQueue::new(alloc, nodes)?;
         let touched = Vec::with_capacity(alloc, nodes as usize)?;
         Ok(Search {
-            side,
-            source: 0,
-            stalls: false,
-            most: MOST_WEIGHT,
             labels,
             queue,
             touched,
         })
     }
 
-    /// Puts the source into a clean search for paths of any weight within the limits.
-    pub(crate) fn begin(&mut self, hierarchy: &Hierarchy, source: u32, stalls: bool)
+    /// Puts a source into a clean search. Afterwards the search is under way for each question from there.
+    pub(crate) fn begin(&mut self, hierarchy: &Hierarchy, source: u32)
         requires clean { IsClean (nodes_of hierarchy.now) self.old }
         requires source { source < nodes_of hierarchy.now }
-        ensures underway { IsUnderway hierarchy.now self.new }
-        ensures side { self.new.side ≡ self.old.side }
-        ensures source { self.new.source ≡ source }
-        ensures stalls { self.new.stalls ≡ stalls }
-        ensures most { self.new.most ≡ MOST_WEIGHT }
-        ensures fresh { IsFresh hierarchy.now self.new }
-    {
-        self.begin_up_to(hierarchy, source, stalls, MOST_WEIGHT);
-    }
-
-    /// Puts the source into a clean search for paths that weigh at most `most`.
-    pub(crate) fn begin_up_to(
-        &mut self,
-        hierarchy: &Hierarchy,
-        source: u32,
-        stalls: bool,
-        most: u64,
-    )
-        requires clean { IsClean (nodes_of hierarchy.now) self.old }
-        requires source { source < nodes_of hierarchy.now }
-        requires most { most ≤ MOST_WEIGHT }
-        ensures underway { IsUnderway hierarchy.now self.new }
-        ensures side { self.new.side ≡ self.old.side }
-        ensures source { self.new.source ≡ source }
-        ensures stalls { self.new.stalls ≡ stalls }
-        ensures most { self.new.most ≡ most }
+        ensures underway { (question : AnyQuestion) → question.source ≡ source → question.most ≤ MOST_WEIGHT → IsUnderway hierarchy.now question self.new }
         ensures fresh { IsFresh hierarchy.now self.new }
         ensures levelled { IsLevelled hierarchy.now }
     {
-        self.source = source;
-        self.stalls = stalls;
-        self.most = most;
         let nothing = Cost { weight: 0, arcs: 0 };
         self.reach(hierarchy.rank(source), nothing, source);
     }
@@ -107,7 +67,6 @@ impl Search {
         ensures queue { self.new.queue ≡ slice_set self.old.queue rank (Some cost) }
         ensures parents { self.new.labels.parents ≡ slice_set self.old.labels.parents rank parent }
         ensures touched { IsTouched self.new.labels.costs self.new.touched }
-        ensures same { IsSameSearch self.old self.new }
     {
         if self.labels.get(rank).is_none() {
             self.touched.push_reserved(rank);
@@ -119,19 +78,19 @@ impl Search {
     }
 
     /// Takes a leg of `node`, which was settled at `cost`: lowers the cost at its other end, or the parent
-    /// at equal cost.
-    fn relax(&mut self, node: u32, cost: Cost, leg: RankedLeg)
+    /// at equal cost. A leg that makes a path heavier than `most` is not taken.
+    fn relax(&mut self, most: u64, node: u32, cost: Cost, leg: RankedLeg)
+        requires most { most ≤ MOST_WEIGHT }
         requires rank { leg.rank < length self.old.labels.costs }
         requires room { IsRoom self.old }
         requires unkeyed { UnreachedIsUnkeyed self.old leg.rank }
         requires weights { (cost.weight ≤ MOST_WEIGHT) × (leg.weight ≤ MOST_WEIGHT) }
         requires arcs { cost.arcs + leg.arcs < 2 ^ 63 }
-        ensures relaxes { RelaxesByRank self.old node cost leg self.new }
+        ensures relaxes { RelaxesByRank most self.old node cost leg self.new }
         ensures touched { IsTouched self.new.labels.costs self.new.touched }
-        ensures same { IsSameSearch self.old self.new }
     {
         let sum = cost.plus(leg.cost());
-        if sum.weight > self.most {
+        if sum.weight > most {
             return;
         }
         if let Some(known) = self.labels.get(leg.rank) {
@@ -149,27 +108,40 @@ impl Search {
     }
 
     /// Takes each leg of the node that was settled last.
-    pub(crate) fn expand(&mut self, hierarchy: &Hierarchy, node: u32, rank: u32, cost: Cost)
-        requires expanding { IsExpandingAt hierarchy.now self.old node cost }
+    pub(crate) fn expand(
+        &mut self,
+        hierarchy: &Hierarchy,
+        question: Question,
+        node: u32,
+        rank: u32,
+        cost: Cost,
+    )
+        requires expanding { IsExpandingAt hierarchy.now question self.old node cost }
         requires rank { rank ≡ rank_of hierarchy.now node }
-        ensures underway { IsUnderway hierarchy.now self.new }
-        ensures same { IsSameSearch self.old self.new }
+        ensures underway { IsUnderway hierarchy.now question self.new }
         ensures settled { KeepsSettled hierarchy.now self.old self.new }
         ensures measure { count_unsettled_in hierarchy.now self.new ≡ count_unsettled_in hierarchy.now self.old }
     {
-        for leg in hierarchy.ranked_legs(self.side, rank) {
-            self.relax(node, cost, *leg);
+        for leg in hierarchy.ranked_legs(question.side, rank) {
+            self.relax(question.most, node, cost, *leg);
         }
     }
 
     /// Whether a leg from a higher node shows a way to `node`, of this rank, that costs less than `cost`.
-    pub(crate) fn is_stalled(&self, hierarchy: &Hierarchy, node: u32, rank: u32, cost: Cost) -> bool
-        requires expanding { IsExpandingAt hierarchy.now self.now node cost }
+    pub(crate) fn is_stalled(
+        &self,
+        hierarchy: &Hierarchy,
+        question: Question,
+        node: u32,
+        rank: u32,
+        cost: Cost,
+    ) -> bool
+        requires expanding { IsExpandingAt hierarchy.now question self.now node cost }
         requires rank { rank ≡ rank_of hierarchy.now node }
-        requires stalls { self.now.stalls ≡ true }
-        ensures { result ≡ true → idle_of hierarchy.now self.now node cost }
+        requires stalls { question.stalls ≡ true }
+        ensures { result ≡ true → idle_of hierarchy.now question node cost }
     {
-        for leg in hierarchy.ranked_legs(self.side.other(), rank) {
+        for leg in hierarchy.ranked_legs(question.side.other(), rank) {
             if let Some(known) = self.labels.get(leg.rank) {
                 if known.plus(leg.cost()).is_below(cost) {
                     return true;
@@ -180,18 +152,24 @@ impl Search {
     }
 
     /// Takes the legs of the node that was settled last, unless the search stalls at it.
-    pub(crate) fn settle(&mut self, hierarchy: &Hierarchy, node: u32, rank: u32, cost: Cost)
-        requires expanding { IsExpandingAt hierarchy.now self.old node cost }
+    pub(crate) fn settle(
+        &mut self,
+        hierarchy: &Hierarchy,
+        question: Question,
+        node: u32,
+        rank: u32,
+        cost: Cost,
+    )
+        requires expanding { IsExpandingAt hierarchy.now question self.old node cost }
         requires rank { rank ≡ rank_of hierarchy.now node }
-        ensures underway { IsUnderway hierarchy.now self.new }
-        ensures same { IsSameSearch self.old self.new }
+        ensures underway { IsUnderway hierarchy.now question self.new }
         ensures settled { KeepsSettled hierarchy.now self.old self.new }
         ensures measure { count_unsettled_in hierarchy.now self.new ≡ count_unsettled_in hierarchy.now self.old }
     {
-        if self.stalls && self.is_stalled(hierarchy, node, rank, cost) {
+        if question.stalls && self.is_stalled(hierarchy, question, node, rank, cost) {
             return;
         }
-        self.expand(hierarchy, node, rank, cost);
+        self.expand(hierarchy, question, node, rank, cost);
     }
 
     /// Whether this side settles the next node: it has the least key of both sides, or neither has a key.
@@ -211,7 +189,6 @@ impl Search {
     pub(crate) fn clean(&mut self)
         requires room { IsRoom self.old }
         ensures clean { IsClean (length self.old.labels.costs) self.new }
-        ensures side { self.new.side ≡ self.old.side }
     {
         self.queue.clear();
         while let Some(rank) = self.touched.pop() {

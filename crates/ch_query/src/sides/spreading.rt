@@ -4,32 +4,32 @@ ghost use Rattle.ch_hierarchy.specs.Hierarchy.{nodes_of, IsLevelled};
 ghost use Rattle.ch_hierarchy.specs.Side.{rows_of};
 ghost use Rattle.ch_query.specs.Search.{IsEmpty};
 ghost use Rattle.ch_query.specs.ByNode.{costs_of};
-ghost use Rattle.ch_query.specs.Underway.{IsSameSearch, IsUnderway, IsClean};
+ghost use Rattle.ch_query.specs.Underway.{IsUnderway, IsUnderwayBySome, IsClean};
 ghost use Rattle.ch_query.specs.Spread.{IsSpread, AreReached, entry};
 
 use super::search::Search;
+use crate::question::Question;
 use crate::scratch::Scratch;
 use crate::start::{Start, most_within};
 use ch_graph::Cost;
-use ch_hierarchy::{Hierarchy, Side};
+use ch_hierarchy::Hierarchy;
 use std::alloc::{AllocError, Global};
 
 impl Search {
     /// Settles all nodes that can be reached, except those that are reached only through stalled nodes.
-    pub(crate) fn explore(&mut self, hierarchy: &Hierarchy)
-        requires underway { IsUnderway hierarchy.now self.old }
-        ensures underway { IsUnderway hierarchy.now self.new }
+    fn explore(&mut self, hierarchy: &Hierarchy, question: Question)
+        requires underway { IsUnderway hierarchy.now question self.old }
+        ensures underway { IsUnderway hierarchy.now question self.new }
         ensures done { IsEmpty self.new.queue }
-        ensures same { IsSameSearch self.old self.new }
     {
         while let Some((cost, rank)) = self.queue.pop() {
-            self.settle(hierarchy, hierarchy.node_at(rank), rank, cost);
+            self.settle(hierarchy, question, hierarchy.node_at(rank), rank, cost);
         }
     }
 
     /// Returns the touched nodes, in order.
     fn touched_nodes(&self, alloc: Global, hierarchy: &Hierarchy) -> Result<Vec<u32>, AllocError>
-        requires underway { IsUnderway hierarchy.now self.now }
+        requires underway { IsUnderwayBySome hierarchy.now self.now }
         ensures { IfOk result (λ nodes. AreReached (costs_of hierarchy.now self.now) nodes.items) }
     {
         let mut nodes = Vec::with_capacity(alloc, self.touched.len())?;
@@ -42,7 +42,7 @@ impl Search {
 
     /// Returns the touched nodes with their costs, in order of node.
     fn listed(&self, alloc: Global, hierarchy: &Hierarchy) -> Result<Vec<(u32, Cost)>, AllocError>
-        requires underway { IsUnderway hierarchy.now self.now }
+        requires underway { IsUnderwayBySome hierarchy.now self.now }
         ensures { IfOk result (λ list. (nodes : List ℕ) × AreReached (costs_of hierarchy.now self.now) nodes × (list.items ≡ map (entry (costs_of hierarchy.now self.now)) nodes)) }
     {
         let nodes = self.touched_nodes(alloc, hierarchy)?;
@@ -61,18 +61,22 @@ impl Search {
         &mut self,
         alloc: Global,
         hierarchy: &Hierarchy,
-        source: u32,
-        within: Option<u64>,
+        start: Start,
     ) -> Result<Vec<(u32, Cost)>, AllocError>
         requires clean { IsClean (nodes_of hierarchy.now) self.old }
-        requires source { source < nodes_of hierarchy.now }
-        ensures spread { IfOk result (λ list. IsSpread (rows_of hierarchy.now self.old.side) within source list.items) }
+        requires source { start.source < nodes_of hierarchy.now }
+        ensures spread { IfOk result (λ list. IsSpread (rows_of hierarchy.now start.side) start.within start.source list.items) }
         ensures clean { IsClean (nodes_of hierarchy.now) self.new }
-        ensures side { self.new.side ≡ self.old.side }
         ensures levelled { IsLevelled hierarchy.now }
     {
-        self.begin_up_to(hierarchy, source, false, most_within(within));
-        self.explore(hierarchy);
+        let question = Question {
+            side: start.side,
+            source: start.source,
+            stalls: false,
+            most: most_within(start.within),
+        };
+        self.begin(hierarchy, start.source);
+        self.explore(hierarchy, question);
         let list = self.listed(alloc, hierarchy);
         self.clean();
         list
@@ -99,12 +103,8 @@ pub fn spread(
     ensures scratch { scratch.new ≡ scratch.old }
     ensures levelled { OnOk result (IsLevelled hierarchy.now) }
 {
-    let (source, within) = (start.source, start.within);
     let mut sides = scratch.take_sides(alloc)?;
-    let list = match start.side {
-        Side::Up => sides.up.spread(alloc, hierarchy, source, within),
-        Side::Down => sides.down.spread(alloc, hierarchy, source, within),
-    };
+    let list = sides.up.spread(alloc, hierarchy, start);
     scratch.put_sides(sides);
     list
 }

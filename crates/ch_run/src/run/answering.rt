@@ -1,8 +1,10 @@
 //! Answers requests that came together, in order.
-ghost use Rattle.std.specs.Prelude.{◌≡◌, ◌≤◌, Bool, [], None, length, All, OnOk};
+ghost use Rattle.std.specs.Prelude.{◌≡◌, ◌≤◌, ◌++◌, Bool, List, [], None, length, map, All, OnOk};
 ghost use Rattle.ch_graph.specs.declared.limits.TheConstants.{MOST_LISTED};
+ghost use Rattle.ch_read.specs.declared.request.Asked.{Asked};
+ghost use Rattle.ch_read.specs.declared.request.Asked.TheVariants.{Request as Asks};
 ghost use Rattle.ch_read.specs.Requests.{IsRequest, Standing};
-ghost use Rattle.ch_run.specs.Serving.{GoesOn, IsAnswerBy, IsRoomFor, places_of};
+ghost use Rattle.ch_run.specs.Serving.{GoesOn, IsRoomFor, places_of, rules_by, situation_of};
 
 use super::first::answer_first;
 use super::loading::Checked;
@@ -59,8 +61,9 @@ pub(crate) fn answer_requests<'a, R: Threads + Sync, O: Output, G: Gate>(
     requires room { IsRoomFor by.now.options.now.direction by.now.checked.now room.old }
     requires each { All (IsRequest by.now.checked.now.graph.nodes) requests.now }
     requires few { length requests.now ≤ MOST_LISTED }
-    ensures answers { (ended : Bool) (reader : Standing) → GoesOn (IsAnswerBy by.now) O.write_gives by.now.checked.now.graph.nodes ended
-        reader reader requests.now [] output.old output.new (places_of room.old.near) (places_of room.new.near) written.old written.new result }
+    ensures answers { (ended : Bool) (reader : Standing) (later : List Asked) → GoesOn (rules_by by.now) O.write_gives by.now.checked.now.graph.nodes ended
+        reader reader (map Asks requests.now ++ later) (λ _. later) output.old output.new (situation_of by.now.checked.now (places_of room.old.near))
+        (situation_of by.now.checked.now (places_of room.new.near)) written.old written.new result }
     ensures room { OnOk result (IsRoomFor by.now.options.now.direction by.now.checked.now room.new) }
 {
     let mut rest = requests;

@@ -6,11 +6,10 @@ ghost use Rattle.ch_run.specs.Ask.{ServesBy};
 ghost use Rattle.ch_run.specs.Run.{reading};
 ghost use Rattle.ch_run.specs.Source.{IsOfLoading, source_reading};
 
-use super::answering::Answering;
 use super::loading::loaded_from;
 use super::serving::serve;
 use crate::fault::RunFault;
-use crate::orders::building_order;
+use crate::needed::Needed;
 use crate::plan::{Crew, Gate};
 use ch_job::{Options, Source};
 use ch_text::{Input, Output};
@@ -20,9 +19,10 @@ use std::thread::Threads;
 /// order: queries, tables with their lists, places, and near rows.
 ///
 /// Before each read it answers all requests that are whole in the bytes that were read. It writes these
-/// answers and then frees their memory. It answers a query as [`run_dist`](super::run_dist) does, and
-/// makes a table as [`run_table`](super::run_table) does. The answers are the same for every plan and
-/// gate. With a saved hierarchy it does not use the options `hops` and `order`.
+/// answers and then frees their memory. New weights hold for all requests after them: if the hierarchy is
+/// customized, it is customized again, over the topology that it keeps. The run answers a query as
+/// [`run_dist`](super::run_dist) does, and makes a table as [`run_table`](super::run_table) does. The answers
+/// are the same for every plan and gate. With a saved hierarchy it does not use the options `hops` and `order`.
 ///
 /// # Errors
 /// - `Read(Graph, _)`, `Read(Saved, _)`: the first fault of the graph, or of the saved hierarchy's lines.
@@ -30,6 +30,8 @@ use std::thread::Threads;
 /// - `Device(Graph)`, `Device(Saved)`: a read of these failed.
 /// - `Read(Requests, _)`: a line of the requests has this fault. All requests before it were answered.
 /// - `CellsAt`: a table has more than 2^22 cells. All requests before it were answered.
+/// - `NoArcAt`: a new weight is for no arc. All requests before the new weights were answered.
+/// - `FixedAt`: new weights came, but the hierarchy is not customized. All requests before them were answered.
 /// - `Device(Requests)`: a read of the requests failed. All requests that were whole in the bytes read before
 ///   were answered.
 /// - `Memory`: there was not enough memory. The first requests may have been answered, each whole.
@@ -56,12 +58,8 @@ pub fn run_ask<R: Threads + Sync, I: Input, S: Input + Drop, J: Input, O: Output
     // The graph and the saved hierarchy are still the same inputs.
     ensures same { (I.origin graph.new ≡ I.origin graph.old) × (source_map S.origin source.new ≡ source_map S.origin source.old) }
 {
-    let loaded = loaded_from(crew, graph, source, true)?;
-    let order = building_order(options);
-    let checked = loaded.checked(crew, options.hops, order)?;
-    let by = Answering {
-        checked: &checked,
-        options,
-    };
-    serve(crew, &by, requests, output)
+    let needed = Needed::by_requests(options);
+    let loaded = loaded_from(crew, graph, source, needed)?;
+    let checked = loaded.checked(crew, options.hops, needed)?;
+    serve(crew, checked, options, requests, output)
 }

@@ -1,11 +1,12 @@
 //! Batches of requests that came together.
-ghost use Rattle.std.specs.Prelude.{◌≡◌, ◌≤◌, length, All};
+ghost use Rattle.std.specs.Prelude.{◌≡◌, ◌≤◌, ◌++◌, length, map, All};
 ghost use Rattle.ch_graph.specs.declared.limits.TheConstants.{MOST_LISTED};
+ghost use Rattle.ch_read.specs.declared.request.Asked.TheVariants.{Request as Asks};
 ghost use Rattle.ch_read.specs.Requests.{Gives, IsRequest, Standing};
-ghost use Rattle.ch_run.specs.Serving.{IsAfter, request_refusal};
+ghost use Rattle.ch_run.specs.Serving.{AreWithin, IsAfter, request_refusal, weights_after};
 
 use crate::fault::{RunFault, Which};
-use ch_read::{Request, RequestError, RequestFault, RequestReader};
+use ch_read::{Asked, NewWeights, Request, RequestError, RequestFault, RequestReader};
 use std::alloc::Global;
 
 /// The most requests of a batch.
@@ -25,21 +26,29 @@ pub(crate) enum Then {
     More,
     /// No further request is whole.
     Nothing,
+    /// New weights.
+    NewWeights(NewWeights),
     /// The reader stopped for this error.
     Stop(RequestError),
 }
 
-/// Gathers the requests that are whole, or the first of them, if there are more than `TOGETHER`.
+/// Gathers the requests that are whole before the next new weights, or the first of them, if there are more than
+/// `TOGETHER`.
 pub(crate) fn gather(alloc: Global, reader: &mut RequestReader, ended: bool) -> Batch
     ensures nodes { reader.new.nodes ≡ reader.old.nodes }
-    ensures given { (gave : Standing) × Gives ended reader.old gave result.requests.items × IsAfter ended gave reader.new result.then }
+    ensures given { (gave : Standing) × Gives ended reader.old gave (map Asks result.requests.items ++ weights_after result.then) × IsAfter ended gave reader.new result.then }
+    ensures weights { AreWithin reader.old.nodes result.then }
     ensures each { All (IsRequest reader.old.nodes) result.requests.items }
     ensures few { length result.requests.items ≤ MOST_LISTED }
 {
     let mut requests = Vec::new(alloc);
     for _ in 0..TOGETHER {
         match reader.next(alloc, ended) {
-            Ok(Some(request)) => {
+            Ok(Some(Asked::Weights(weights))) => {
+                let then = Then::NewWeights(weights);
+                return Batch { requests, then };
+            }
+            Ok(Some(Asked::Request(request))) => {
                 let Ok(()) = requests.push(request) else {
                     let then = Then::Stop(RequestError::NoMemory);
                     return Batch { requests, then };

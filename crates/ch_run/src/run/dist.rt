@@ -5,7 +5,7 @@ ghost use Rattle.ch_query.specs.Replies.{AreQueries};
 ghost use Rattle.ch_job.specs.Job.{source_map};
 ghost use Rattle.ch_run.specs.DistRun.{IsAnsweredBy};
 ghost use Rattle.ch_run.specs.Run.{Delivers, reading};
-ghost use Rattle.ch_run.specs.Source.{IsOfRoutes, source_reading};
+ghost use Rattle.ch_run.specs.Source.{IsServing, source_reading};
 ghost use Rattle.ch_run.specs.Stories.{RunsDist};
 ghost use Rattle.ch_run.specs.Text.{IsTextBy, writes_routes};
 
@@ -15,6 +15,7 @@ use super::loading::{Loaded, loaded_from};
 use super::output::write_parts;
 use super::texts::{answers_by, plain_text};
 use crate::fault::RunFault;
+use crate::needed::Needed;
 use crate::plan::{Crew, Gate};
 use crate::routes::writes_routes;
 use ch_job::{Options, Source};
@@ -57,29 +58,31 @@ pub fn run_dist<R: Threads + Sync, I: Input, S: Input + Drop, J: Input, O: Outpu
     // Each input is still the same one.
     ensures same { (I.origin graph.new ≡ I.origin graph.old) × (source_map S.origin source.new ≡ source_map S.origin source.old) × (J.origin queries.new ≡ J.origin queries.old) }
 {
-    let loaded = loaded_from(crew, graph, source, writes_routes(options))?;
+    let needed = Needed::by_queries(options);
+    let loaded = loaded_from(crew, graph, source, needed)?;
     let queries = queries_from(crew.alloc, queries, loaded.graph())?;
-    let parts = text_of(crew, loaded, &queries, options)?;
+    let parts = text_of(crew, loaded, needed, &queries, options)?;
     write_parts(output, &parts)
 }
 
-/// Returns the text that answers the queries, in the way that the options choose, in parts.
+/// Returns the text that answers the queries, in the way that the options choose, in parts. Routes are those of a hierarchy
+/// that serves.
 fn text_of<R: Threads + Sync, G: Gate>(
     crew: &Crew<'_, R, G>,
     loaded: Loaded,
+    needed: Needed,
     queries: &[(u32, u32)],
     options: &Options,
 ) -> Result<Vec<Vec<u8>>, AllocError>
     requires queries { AreQueries loaded.graph.nodes queries.now }
     requires count { length queries.now ≤ MOST_QUERIES }
-    ensures text { IfOk result (λ parts. IsTextBy (writes_routes options.now) loaded.graph (IsOfRoutes options.now loaded.graph loaded.saved) queries.now (flat_map (λ part. part.items) parts.items)) }
+    ensures text { IfOk result (λ parts. IsTextBy (writes_routes options.now) loaded.graph (IsServing needed options.now.hops.number loaded.graph loaded.saved) queries.now (flat_map (λ part. part.items) parts.items)) }
     ensures length { IfOk result (λ parts. length (flat_map (λ part. part.items) parts.items) < 2 ^ 64) }
 {
     if options.plain {
         let text = plain_text(crew.alloc, loaded.graph(), queries, crew.gate)?;
         return one_part(crew.alloc, text);
     }
-    let routes = writes_routes(options);
-    let hierarchy = loaded.hierarchy_for(crew, options.hops, options.order, routes)?;
-    answers_by(crew, &hierarchy, queries, routes)
+    let hierarchy = loaded.hierarchy(crew, options.hops, needed)?;
+    answers_by(crew, &hierarchy, queries, writes_routes(options))
 }

@@ -1,12 +1,12 @@
 //! Answers the first of the requests that came together.
-ghost use Rattle.std.specs.Prelude.{◌≡◌, ◌<◌, ◌≤◌, true, false, ⊤, ◌∷◌, List, None, length, All, IfOk, MatchOption};
+ghost use Rattle.std.specs.Prelude.{◌≡◌, ◌<◌, ◌≤◌, true, false, ⊤, ◌∷◌, List, None, Some, length, All, IfOk, MatchOption};
 ghost use Rattle.ch_graph.specs.declared.limits.TheConstants.{MOST_LISTED};
 ghost use Rattle.ch_read.specs.Requests.{ArePlaces, AreTwoLists, IsRequest};
 ghost use Rattle.ch_read.specs.RequestLists.{PlaceList};
 ghost use Rattle.ch_read.specs.declared.request.Request.{Request as RequestKind};
 ghost use Rattle.ch_read.specs.declared.request.Request.TheVariants as RequestOf;
 ghost use Rattle.ch_run.specs.Ask.{limit_of};
-ghost use Rattle.ch_run.specs.Serving.{AnswersFirst, AreFirstOf, IsAnswerBy, IsRoomFor, asked_for, near_row_of, places_of};
+ghost use Rattle.ch_run.specs.Serving.{AnswersFirst, AreFirstOf, IsAnswerBy, IsRoomFor, IsSearched, asked_for, near_row_of, places_of};
 
 use super::answering::{Answering, Room};
 use super::near_texts::NearSearch;
@@ -219,19 +219,26 @@ fn take_places<'a, R: Threads + Sync, G: Gate>(
 {
     // The memory of the earlier searches is freed for these.
     room.near = None;
-    let direction = by.options.direction;
-    let count = places.count();
-    let near = NearTargets::search(
-        crew,
-        by.checked.hierarchy(),
-        direction,
-        places.nodes(),
-        None,
-        count,
-    )?;
-    room.near = Some(NearSearch::new(crew.alloc, near));
+    room.near = Some(search_from(crew, by, places.nodes(), places.count())?);
     Ok(FirstAnswers {
         text: Vec::new(crew.alloc),
         count: 1,
     })
+}
+
+/// Searches from each of these places, of which a near row has at most `count`.
+pub(crate) fn search_from<'a, R: Threads + Sync, G: Gate>(
+    crew: &Crew<'_, R, G>,
+    by: &Answering<'a>,
+    nodes: &[u32],
+    count: Option<u32>,
+) -> Result<NearSearch<'a>, AllocError>
+    requires places { ArePlaces by.now.checked.now.graph.nodes (record { nodes = nodes.now; count = count }) }
+    ensures places { IfOk result (λ near. places_of (Some near) ≡ record { nodes = nodes.now; count = count }) }
+    ensures searched { IfOk result (λ near. IsSearched by.now.options.now.direction by.now.checked.now (Some near)) }
+{
+    let direction = by.options.direction;
+    let hierarchy = by.checked.hierarchy();
+    let near = NearTargets::search(crew, hierarchy, direction, nodes, None, count)?;
+    Ok(NearSearch::new(crew.alloc, near, count))
 }

@@ -1,10 +1,12 @@
 //! A graph, and a saved hierarchy or an order if there is one. Both are read to their end and checked.
-ghost use Rattle.std.specs.Prelude.{◌≡◌, ◌<◌, IsTrue, Some, IfOk, IfErr, IsOkAnd, MatchResult, ⊤};
+ghost use Rattle.std.specs.Prelude.{◌≡◌, ◌<◌, ℕ, Some, IfOk, IfErr, IsOkAnd, MatchResult, ⊤};
 ghost use Rattle.ch_graph.specs.Saved.{OrderAndLegs};
 ghost use Rattle.ch_hierarchy.specs.Hierarchy.{LevelsAndLegs};
 ghost use Rattle.ch_hierarchy.specs.Kept.{IsKept};
 ghost use Rattle.ch_job.specs.Job.{source_map};
-ghost use Rattle.ch_run.specs.Loaded.{IsRight};
+ghost use Rattle.ch_read.specs.Requests.{AreNewWeights};
+ghost use Rattle.ch_run.specs.Frames.{IsFrameFor, IsFrameFrom};
+ghost use Rattle.ch_run.specs.Loaded.{IsRight, IsWeighed, IsWeighingFault};
 ghost use Rattle.ch_run.specs.Run.{reading, ReadsAll};
 ghost use Rattle.ch_read.specs.Names.{NamesOrder, NamesSaved};
 ghost use Rattle.ch_read.specs.declared.form.Form.TheVariants as Form;
@@ -12,28 +14,33 @@ ghost use Rattle.ch_graph.specs.Graph.{IsWithinLimits};
 ghost use Rattle.ch_hierarchy.specs.Saved.{NamesKept};
 ghost use Rattle.ch_run.specs.Customized.{IsDissected, IsUncustomizable, NamesCustomized};
 ghost use Rattle.ch_run.specs.Story.{EndsAt, IsOrderRefusedOn, IsRefused, IsSavedRefusedOn, Loads, NamesLike};
-ghost use Rattle.ch_run.specs.Source.{IsInPlaceOf, IsServing, IsToSave, ReadsSaved, source_reading};
+ghost use Rattle.ch_run.specs.Source.{IsServing, ReadsSaved, source_reading};
 
 use super::inputs::{bytes_from, graph_from};
-use crate::building::{build_by, build_in_order, build_to_save, customize_dissected, customize_in};
+use crate::building::{build, build_in_order, customize_dissected, customize_in};
 use crate::fault::{RunFault, Which};
+use crate::frame::Frame;
+use crate::needed::Needed;
 use crate::plan::{Crew, Gate, Stage};
-use ch_contract::{CheckError, Hierarchy, HopBound, OrderBy, Percent};
+use crate::weighing::{WeighingError, weigh};
+use ch_contract::{CheckError, Hierarchy, HopBound, Percent};
 use ch_graph::{Graph, Saved};
-use ch_job::{Options, Source};
-use ch_order::{LikeError, OrderError, build_quickly};
+use ch_job::Source;
+use ch_order::{LikeError, OrderError};
 use ch_query::check_watched;
-use ch_read::{read_order_by, read_saved_by};
+use ch_read::{NewWeights, read_order_by, read_saved_by};
 use ch_text::Input;
 use std::alloc::AllocError;
 use std::marker::Model;
 use std::thread::Threads;
 
-/// A graph, and the hierarchy that is right for it, if one was read, or built like an order that was read.
+/// A graph, and the hierarchy that is right for it, if one was read, or built like an order that was read. If it is
+/// customized, its frame is kept.
 #[derive(Drop)]
 pub(crate) struct Loaded {
     graph: Graph,
     saved: Option<Hierarchy>,
+    frame: Option<Frame>,
 }
 
 impl Model for Loaded {
@@ -41,16 +48,17 @@ impl Model for Loaded {
 
     ghost Value = { GraphAndSaved };
 
-    ghost view = { λ loaded. record { graph = loaded.graph; saved = loaded.saved } };
+    ghost view = { λ loaded. record { graph = loaded.graph; saved = loaded.saved; frame = loaded.frame } };
 
-    ghost invariant = { λ loaded. IsRightIfSaved (record { graph = loaded.graph; saved = loaded.saved }) };
+    ghost invariant = { λ loaded. IsRightIfSaved (record { graph = loaded.graph; saved = loaded.saved; frame = loaded.frame }) };
 }
 
-/// A graph, and a hierarchy that is right for it.
+/// A graph, and a hierarchy that is right for it. If new weights can be customized, their frame is kept.
 #[derive(Drop)]
 pub(crate) struct Checked {
     graph: Graph,
     hierarchy: Hierarchy,
+    frame: Option<Frame>,
 }
 
 impl Model for Checked {
@@ -58,9 +66,9 @@ impl Model for Checked {
 
     ghost Value = { GraphAndHierarchy };
 
-    ghost view = { λ checked. record { graph = checked.graph; hierarchy = checked.hierarchy } };
+    ghost view = { λ checked. record { graph = checked.graph; hierarchy = checked.hierarchy; frame = checked.frame } };
 
-    ghost invariant = { λ checked. IsRight (record { graph = checked.graph; hierarchy = checked.hierarchy }) };
+    ghost invariant = { λ checked. IsRight (record { graph = checked.graph; hierarchy = checked.hierarchy; frame = checked.frame }) };
 }
 
 impl Checked {
@@ -79,56 +87,83 @@ impl Checked {
     {
         &self.hierarchy
     }
+
+    /// Returns the graph with new weights, and the hierarchy that is customized for them over the kept frame. The memory of
+    /// the earlier hierarchy is free by then.
+    ///
+    /// # Errors
+    /// `FixedAt` if there is no frame, `NoArcAt` with the line of the first new weight that is for no arc, and `Memory` if
+    /// there is not enough memory.
+    pub(crate) fn weighed<R: Threads + Sync, G: Gate>(
+        self,
+        crew: &Crew<'_, R, G>,
+        weights: &NewWeights,
+    ) -> Result<Checked, RunFault>
+        requires weights { AreNewWeights self.graph.nodes weights.now }
+        ensures weighed { IfOk result (IsWeighed self weights.now) }
+        ensures refused { IfErr result (IsWeighingFault self weights.now) }
+    {
+        let Checked {
+            graph,
+            hierarchy,
+            frame,
+        } = self;
+        let Some(frame) = frame else {
+            return Err(RunFault::FixedAt(weights.line()));
+        };
+        let graph = match weigh(crew.alloc, &graph, weights.listed()) {
+            Ok(graph) => graph,
+            Err(WeighingError::NoArc(line)) => return Err(RunFault::NoArcAt(line)),
+            Err(WeighingError::NoMemory) => return Err(RunFault::Memory),
+        };
+        drop(hierarchy);
+        let hierarchy = frame.hierarchy(crew, &graph)?;
+        Ok(Checked {
+            graph,
+            hierarchy,
+            frame: Some(frame),
+        })
+    }
 }
 
 /// Reads a graph to its end. Then it reads the saved hierarchy if there is one, and checks it for the graph. Or it
 /// reads an order, and builds the hierarchy in an order like it, or customizes it in that order or in one that it finds.
-/// `named` says whether what the run writes names the hierarchy. If not, each hierarchy serves that is right for the graph,
-/// and one is built that takes less time.
+/// In the place of one that is built in an order, another serves if `needed` says so, which takes less time.
 pub(crate) fn loaded_from<R: Threads + Sync, I: Input, S: Input + Drop, G: Gate>(
     crew: &Crew<'_, R, G>,
     graph: &mut I,
     source: &mut Source<S>,
-    named: bool,
+    needed: Needed,
 ) -> Result<Loaded, RunFault>
     ensures went { Loads (reading I.read_gives graph.old graph.new) (source_reading S.read_gives source.old source.new) (source.new ≡ source.old) result ⊤ (λ g h.
-        IsOkAnd result (λ loaded. (loaded.graph ≡ g) × IsInPlaceOf named g h loaded.saved)) }
+        IsOkAnd result (λ loaded. (loaded.graph ≡ g) × ((hops : ℕ) (K : LevelsAndLegs) → IsServing needed hops g loaded.saved K → IsServing needed hops g h K))) }
+    ensures frame { IfOk result (λ loaded. IsFrameFrom (source_reading S.read_gives source.old source.new) loaded.graph.nodes loaded.frame) }
     ensures same_graph { I.origin graph.new ≡ I.origin graph.old }
     ensures same_source { source_map S.origin source.new ≡ source_map S.origin source.old }
 {
     crew.gate.watch(Stage::Reading, 0, files_of(source));
     let graph = graph_from(crew, graph)?;
-    match source {
-        Source::Built => Ok(Loaded { graph, saved: None }),
-        Source::Saved(saved) => {
-            let hierarchy = checked_from(crew, saved, &graph)?;
-            Ok(Loaded {
-                graph,
-                saved: Some(hierarchy),
-            })
-        }
+    let (saved, frame) = match source {
+        Source::Built => (None, None),
+        Source::Saved(saved) => (Some(checked_from(crew, saved, &graph)?), None),
         Source::Like { order, fresh, hops } => {
-            let hierarchy = built_from(crew, order, &graph, *fresh, *hops, named)?;
-            Ok(Loaded {
-                graph,
-                saved: Some(hierarchy),
-            })
+            let hierarchy = built_from(crew, order, &graph, *fresh, *hops, needed)?;
+            (Some(hierarchy), None)
         }
         Source::Customized { order, hops } => {
-            let hierarchy = customized_from(crew, order, &graph, *hops)?;
-            Ok(Loaded {
-                graph,
-                saved: Some(hierarchy),
-            })
+            let (frame, hierarchy) = customized_from(crew, order, &graph, *hops)?;
+            (Some(hierarchy), Some(frame))
         }
         Source::Dissected { hops } => {
-            let hierarchy = customize_dissected(crew, &graph, *hops)?;
-            Ok(Loaded {
-                graph,
-                saved: Some(hierarchy),
-            })
+            let (frame, hierarchy) = customize_dissected(crew, &graph, *hops)?;
+            (Some(hierarchy), Some(frame))
         }
-    }
+    };
+    Ok(Loaded {
+        graph,
+        saved,
+        frame,
+    })
 }
 
 /// Returns how many inputs loading reads.
@@ -167,15 +202,15 @@ fn built_from<R: Threads + Sync, S: Input, G: Gate>(
     graph: &Graph,
     fresh: Percent,
     hops: HopBound,
-    named: bool,
+    needed: Needed,
 ) -> Result<Hierarchy, RunFault>
-    ensures value { IfOk result (λ K. ReadsAll (reading S.read_gives order.old order.new) (λ bytes. (H : LevelsAndLegs) × NamesLike graph.now fresh.number hops.number bytes H × IsInPlaceOf named graph.now (Some H) (Some K))) }
+    ensures value { IfOk result (λ K. ReadsAll (reading S.read_gives order.old order.new) (λ bytes. (H : LevelsAndLegs) × NamesLike graph.now fresh.number hops.number bytes H × IsServing needed hops.number graph.now (Some H) K)) }
     ensures kept { IfOk result (IsKept graph.now) }
     ensures same { S.origin order.new ≡ S.origin order.old }
     ensures ends { IfErr result (EndsAt Which.Order (reading S.read_gives order.old order.new) (IsOrderRefusedOn graph.now fresh.number hops.number)) }
 {
     let given = order_from(crew, order, graph)?;
-    match build_in_order(crew, graph, &given, fresh, hops, named) {
+    match build_in_order(crew, graph, &given, fresh, hops, needed) {
         Ok(hierarchy) => Ok(hierarchy),
         Err(LikeError::Order) => Err(RunFault::Order),
         Err(LikeError::Crowded(node)) => Err(RunFault::Crowded(node)),
@@ -190,15 +225,18 @@ fn customized_from<R: Threads + Sync, S: Input, G: Gate>(
     order: &mut S,
     graph: &Graph,
     hops: HopBound,
-) -> Result<Hierarchy, RunFault>
-    ensures value { IfOk result (λ H. ReadsAll (reading S.read_gives order.old order.new) (λ bytes. NamesCustomized graph.now hops.number bytes H)) }
-    ensures kept { IfOk result (IsKept graph.now) }
+) -> Result<(Frame, Hierarchy), RunFault>
+    ensures value { IfOk result (λ made. ReadsAll (reading S.read_gives order.old order.new) (λ bytes. NamesCustomized graph.now hops.number bytes made.1)) }
+    ensures order { IfOk result (λ made. ReadsAll (reading S.read_gives order.old order.new) (λ bytes. (s : OrderAndLegs) × NamesSaved bytes graph.now.nodes s × (s.order ≡ made.0.order))) }
+    ensures hops { IfOk result (λ made. made.0.hops ≡ hops.number) }
+    ensures fits { IfOk result (λ made. IsFrameFor graph.now made.0) }
+    ensures kept { IfOk result (λ made. IsKept graph.now made.1) }
     ensures same { S.origin order.new ≡ S.origin order.old }
     ensures ends { IfErr result (EndsAt Which.Order (reading S.read_gives order.old order.new) (IsUncustomizable graph.now)) }
 {
     let given = order_from(crew, order, graph)?;
-    match customize_in(crew, graph, &given, hops) {
-        Ok(hierarchy) => Ok(hierarchy),
+    match customize_in(crew, graph, given, hops) {
+        Ok(made) => Ok(made),
         Err(OrderError::Order) => Err(RunFault::Order),
         Err(OrderError::NoMemory) => Err(RunFault::Memory),
     }
@@ -213,93 +251,50 @@ impl Loaded {
         &self.graph
     }
 
-    /// Returns the graph with the hierarchy that serves: the one that was loaded, or one that it builds in
-    /// this order.
+    /// Returns the graph with a hierarchy that serves: the one that was loaded, or one that it builds, where a witness has at
+    /// most `hops` legs.
+    ///
+    /// # Errors
+    /// `AllocError` if there is no memory.
     pub(crate) fn checked<R: Threads + Sync, G: Gate>(
         self,
         crew: &Crew<'_, R, G>,
         hops: HopBound,
-        order: OrderBy,
+        needed: Needed,
     ) -> Result<Checked, AllocError>
         ensures graph { IfOk result (λ checked. checked.graph ≡ self.graph) }
-        ensures serving { IfOk result (λ checked. IsServing order hops.number self.graph self.saved checked.hierarchy) }
+        ensures frame { IfOk result (λ checked. checked.frame ≡ self.frame) }
+        ensures serving { IfOk result (λ checked. IsServing needed hops.number self.graph self.saved checked.hierarchy) }
     {
-        let Loaded { graph, saved } = self;
+        let Loaded {
+            graph,
+            saved,
+            frame,
+        } = self;
         let hierarchy = match saved {
             Some(hierarchy) => hierarchy,
-            None => build_by(crew, &graph, hops, order)?,
+            None => build(crew, &graph, hops, needed)?,
         };
-        Ok(Checked { graph, hierarchy })
+        Ok(Checked {
+            graph,
+            hierarchy,
+            frame,
+        })
     }
 
-    /// Returns the hierarchy that serves, and drops the graph. Its memory is then free for the answers.
+    /// Does the same, and drops the graph. Its memory is then free for the answers.
     pub(crate) fn hierarchy<R: Threads + Sync, G: Gate>(
         self,
         crew: &Crew<'_, R, G>,
         hops: HopBound,
-        order: OrderBy,
+        needed: Needed,
     ) -> Result<Hierarchy, AllocError>
-        ensures serving { IfOk result (IsServing order hops.number self.graph self.saved) }
+        ensures serving { IfOk result (IsServing needed hops.number self.graph self.saved) }
         ensures kept { IfOk result (IsKept self.graph) }
+        ensures limits { IfOk result (λ _. IsWithinLimits self.graph) }
     {
-        let Checked { graph, hierarchy } = self.checked(crew, hops, order)?;
-        drop(graph);
+        let Checked { hierarchy, .. } = self.checked(crew, hops, needed)?;
         Ok(hierarchy)
-    }
-
-    /// Returns the hierarchy that is saved with these options: the one that was loaded, or one that it builds. It drops the
-    /// graph.
-    pub(crate) fn hierarchy_to_save<R: Threads + Sync, G: Gate>(
-        self,
-        crew: &Crew<'_, R, G>,
-        options: &Options,
-    ) -> Result<Hierarchy, AllocError>
-        ensures { IfOk result (IsToSave options.now self.graph self.saved) }
-    {
-        let Loaded { graph, saved } = self;
-        let hierarchy = match saved {
-            Some(hierarchy) => hierarchy,
-            None => build_to_save(crew, &graph, options)?,
-        };
-        drop(graph);
-        Ok(hierarchy)
-    }
-
-    /// Returns a hierarchy that serves where no answer depends on which one it is: the one that was loaded, or one that takes
-    /// little time to build. It drops the graph.
-    pub(crate) fn any_hierarchy<R: Threads + Sync, G: Gate>(
-        self,
-        crew: &Crew<'_, R, G>,
-        hops: HopBound,
-    ) -> Result<Hierarchy, AllocError>
-        ensures kept { IfOk result (IsKept self.graph) }
-    {
-        let Loaded { graph, saved } = self;
-        let hierarchy = match saved {
-            Some(hierarchy) => hierarchy,
-            None => build_quickly(crew, &graph, hops)?,
-        };
-        drop(graph);
-        Ok(hierarchy)
-    }
-
-    /// Returns the hierarchy that serves if what the run writes names it, and any hierarchy otherwise. It drops the graph.
-    pub(crate) fn hierarchy_for<R: Threads + Sync, G: Gate>(
-        self,
-        crew: &Crew<'_, R, G>,
-        hops: HopBound,
-        order: OrderBy,
-        named: bool,
-    ) -> Result<Hierarchy, AllocError>
-        ensures serving { IfOk result (λ H. IsTrue named → IsServing order hops.number self.graph self.saved H) }
-        ensures kept { IfOk result (IsKept self.graph) }
-        ensures limits { IsWithinLimits self.graph }
-    {
-        let _graph = self.graph();
-        if named {
-            return self.hierarchy(crew, hops, order);
-        }
-        self.any_hierarchy(crew, hops)
     }
 }
 

@@ -12,6 +12,7 @@ use super::loading::{Loaded, loaded_from};
 use super::near_texts::near_by;
 use super::output::write_parts;
 use crate::fault::{RunFault, Which};
+use crate::needed::Needed;
 use crate::plan::{Crew, Gate};
 use ch_job::{Options, Source, Sources};
 use ch_text::{Input, Output};
@@ -70,7 +71,7 @@ pub fn run_near<
     ensures same { (I.origin graph.new ≡ I.origin graph.old) × (source_map S.origin source.new ≡ source_map S.origin source.old)
         × (sources_map J.origin sources.new ≡ sources_map J.origin sources.old) × (L.origin targets.new ≡ L.origin targets.old) }
 {
-    let loaded = loaded_from(crew, graph, source, false)?;
+    let loaded = loaded_from(crew, graph, source, Needed::Any)?;
     let sources = sources_from(crew.alloc, sources, loaded.graph())?;
     let targets = nodes_from(crew.alloc, targets, loaded.graph(), Which::Targets)?;
     let parts = near_of(crew, loaded, &sources, &targets, options)?;
@@ -90,6 +91,6 @@ fn near_of<R: Threads + Sync, G: Gate>(
     ensures text { IfOk result (λ parts. IsNearTextFor options.now loaded.graph (nodes_of_sources loaded.graph.nodes sources.now) targets.now (flat_map (λ part. part.items) parts.items)) }
     ensures length { IfOk result (λ parts. length (flat_map (λ part. part.items) parts.items) < 2 ^ 64) }
 {
-    let hierarchy = loaded.any_hierarchy(crew, options.hops)?;
+    let hierarchy = loaded.hierarchy(crew, options.hops, Needed::Any)?;
     near_by(crew, &hierarchy, sources, targets, options)
 }

@@ -26,11 +26,12 @@ use std::thread::Threads;
 #[derive(Drop)]
 pub(crate) struct NearSearch<'a> {
     targets: NearTargets<'a>,
+    count: Option<u32>,
     rooms: Vec<NearRoom>,
 }
 
 impl<'a> Model for NearSearch<'a> {
-    ghost use Rattle.std.specs.Prelude.{All};
+    ghost use Rattle.std.specs.Prelude.{◌≡◌, All};
     ghost use Rattle.ch_rows.specs.Near.{Wanted};
     ghost use Rattle.ch_rows.specs.Rooms.{IsNearRoomFor};
 
@@ -38,18 +39,34 @@ impl<'a> Model for NearSearch<'a> {
 
     ghost view = { λ near. near.targets };
 
-    ghost invariant = { λ near. All (IsNearRoomFor near.targets) near.rooms.items };
+    ghost invariant = { λ near. All (IsNearRoomFor near.targets) near.rooms.items × (near.count ≡ near.targets.count) };
 }
 
 impl<'a> NearSearch<'a> {
-    /// Takes the targets, with no room yet.
-    pub(crate) fn new(alloc: Global, targets: NearTargets<'a>) -> NearSearch<'a>
+    /// Takes the targets, of which a row has at most `count`, with no room yet.
+    pub(crate) fn new(alloc: Global, targets: NearTargets<'a>, count: Option<u32>) -> NearSearch<'a>
+        requires { count ≡ targets.count }
         ensures { result ≡ targets.entry }
     {
         NearSearch {
             targets,
+            count,
             rooms: Vec::new(alloc),
         }
+    }
+
+    /// Returns the targets, in order.
+    pub(crate) fn targets(&self) -> &[u32]
+        ensures { result.now ≡ self.now.targets }
+    {
+        self.targets.targets()
+    }
+
+    /// Returns the greatest number of targets in a row, or `None` if a row has all of them.
+    pub(crate) fn count(&self) -> Option<u32>
+        ensures { result ≡ self.now.count }
+    {
+        self.count
     }
 
     /// Returns the text of the near rows of these sources, in parts, within a limit that is at most the one of the search. The
@@ -106,7 +123,7 @@ pub(crate) fn near_by<R: Threads + Sync, G: Gate>(
             swept_text(crew, &near, &all)
         }
         Sources::Listed(list) if list.len() < nodes as usize / 2 => {
-            NearSearch::new(crew.alloc, near).text(crew, list, within)
+            NearSearch::new(crew.alloc, near, options.count).text(crew, list, within)
         }
         Sources::Listed(list) => swept_text(crew, &near, list),
     }

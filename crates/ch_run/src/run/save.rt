@@ -2,7 +2,7 @@
 ghost use Rattle.std.specs.Prelude.{◌≡◌, IfOk};
 ghost use Rattle.ch_job.specs.Job.{source_map};
 ghost use Rattle.ch_run.specs.Run.{Delivers, reading};
-ghost use Rattle.ch_run.specs.Source.{IsToSave, source_reading};
+ghost use Rattle.ch_run.specs.Source.{IsServing, source_reading};
 ghost use Rattle.ch_run.specs.Stories.{RunsSave};
 ghost use Rattle.ch_run.specs.SaveRun.{IsSavedBy};
 ghost use Rattle.ch_run.specs.Text.{IsSaveTextOf};
@@ -10,8 +10,9 @@ ghost use Rattle.ch_run.specs.Text.{IsSaveTextOf};
 use super::loading::{Loaded, loaded_from};
 use super::output::write_text;
 use crate::fault::RunFault;
+use crate::needed::Needed;
 use crate::plan::{Crew, Gate};
-use ch_job::{Options, Source};
+use ch_job::{HopBound, Options, Source};
 use ch_text::{Input, Output, save_text};
 use std::alloc::AllocError;
 use std::thread::Threads;
@@ -51,19 +52,21 @@ pub fn run_save<R: Threads + Sync, I: Input, S: Input + Drop, O: Output, G: Gate
     // Each input is still the same one.
     ensures same { (I.origin graph.new ≡ I.origin graph.old) × (source_map S.origin source.new ≡ source_map S.origin source.old) }
 {
-    let loaded = loaded_from(crew, graph, source, true)?;
-    let text = save_text_of(crew, loaded, options)?;
+    let needed = Needed::to_save(options);
+    let loaded = loaded_from(crew, graph, source, needed)?;
+    let text = save_text_of(crew, loaded, options.hops, needed)?;
     write_text(output, &text)
 }
 
-/// Returns the text of the hierarchy that serves.
+/// Returns the text of a hierarchy that serves.
 fn save_text_of<R: Threads + Sync, G: Gate>(
     crew: &Crew<'_, R, G>,
     loaded: Loaded,
-    options: &Options,
+    hops: HopBound,
+    needed: Needed,
 ) -> Result<Vec<u8>, AllocError>
-    ensures { IfOk result (λ text. IsSaveTextOf (IsToSave options.now loaded.graph loaded.saved) text.items) }
+    ensures { IfOk result (λ text. IsSaveTextOf (IsServing needed hops.number loaded.graph loaded.saved) text.items) }
 {
-    let hierarchy = loaded.hierarchy_to_save(crew, options)?;
+    let hierarchy = loaded.hierarchy(crew, hops, needed)?;
     save_text(crew.alloc, &hierarchy)
 }

@@ -13,6 +13,7 @@ use super::loading::{Loaded, loaded_from};
 use super::output::write_parts;
 use super::texts::table_parts_by;
 use crate::fault::{RunFault, Which};
+use crate::needed::Needed;
 use crate::plan::{Crew, Gate};
 use ch_job::{Options, Source};
 use ch_text::{Input, Output};
@@ -68,7 +69,7 @@ pub fn run_table<
     ensures same { (I.origin graph.new ≡ I.origin graph.old) × (source_map S.origin source.new ≡ source_map S.origin source.old)
         × (J.origin sources.new ≡ J.origin sources.old) × (L.origin targets.new ≡ L.origin targets.old) }
 {
-    let loaded = loaded_from(crew, graph, source, false)?;
+    let loaded = loaded_from(crew, graph, source, Needed::Any)?;
     let sources = nodes_from(crew.alloc, sources, loaded.graph(), Which::Sources)?;
     let targets = nodes_from(crew.alloc, targets, loaded.graph(), Which::Targets)?;
     if sources.len() * targets.len() > MOST_CELLS as usize {
@@ -90,6 +91,6 @@ fn table_of<R: Threads + Sync, G: Gate>(
     ensures text { IfOk result (λ parts. IsTableText loaded.graph options.now.within sources.now targets.now (flat_map (λ part. part.items) parts.items)) }
     ensures length { IfOk result (λ parts. length (flat_map (λ part. part.items) parts.items) < 2 ^ 64) }
 {
-    let hierarchy = loaded.any_hierarchy(crew, options.hops)?;
+    let hierarchy = loaded.hierarchy(crew, options.hops, Needed::Any)?;
     table_parts_by(crew, &hierarchy, sources, targets, options.within)
 }

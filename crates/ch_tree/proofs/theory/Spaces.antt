@@ -1,26 +1,36 @@
 -- The ancestors that a pass to the root has found are a search space.
-use Rattle.std.proofs.Common.{◌≡◌, ℕ, ◌+◌, ◌-◌, ◌<◌, ◌≤◌, ◌⊎◌, List, [], ◌∷◌, ◌++◌, length, get_or, Contains, Option, refl, sym, ◌∙◌, ap}
-use Rattle.std.proofs.Common.{subst, arith, inl, inr}
+use Rattle.std.proofs.Common.{◌≡◌, ℕ, ◌+◌, ◌-◌, ◌<◌, ◌≤◌, ◌⊎◌, List, [], ◌∷◌, ◌++◌, length, map, get_or, Contains, Option, refl, sym}
+use Rattle.std.proofs.Common.{◌∙◌, ap, subst, arith, inl, inr}
 use Rattle.std.specs.Prelude.{◌≢◌, AllPairs, slice_index}
 use Rattle.std.proofs.lemmas.Bool.{cases_lt}
-use Rattle.std.proofs.lemmas.List.Elements.{Contains-append_cases}
+use Rattle.std.proofs.lemmas.List.Elements.{Contains-append_cases, Contains-get_or}
 use Rattle.ch_graph.specs.declared.cost.Cost.{Cost}
 use Rattle.ch_graph.specs.declared.limits.TheConstants.{MOST_WEIGHT}
-use Rattle.ch_graph.proofs.Lists.{contains_none, contains_cons, contains_head, contains_tail, pairs_append}
+use Rattle.ch_graph.specs.Cost.{IsAtMost}
+use Rattle.ch_graph.proofs.CostOrder.{IsAtMost_refl}
+use Rattle.ch_graph.proofs.CostSums.{cost_sum-no_cost}
+use Rattle.ch_graph.proofs.Lists.{contains_none, contains_cons, contains_head, contains_tail, contains_map, contains_map_of, pairs_append}
 use Rattle.ch_hierarchy.specs.declared.leg.Leg.{Leg}
+use Rattle.ch_hierarchy.specs.declared.ranked.RankedLeg.{RankedLeg}
 use Rattle.ch_hierarchy.specs.declared.side.Side.{Side}
 use Rattle.ch_hierarchy.specs.declared.side.Side.TheVariants.{Up, Down}
 use Rattle.ch_hierarchy.specs.Hierarchy.{LevelsAndLegs, nodes_of, IsLevelled}
-use Rattle.ch_hierarchy.specs.Ranked.{rank_of}
-use Rattle.ch_hierarchy.specs.Side.{rows_of}
+use Rattle.ch_hierarchy.specs.Ranked.{rank_of, ranked_leg}
+use Rattle.ch_hierarchy.specs.Rows.{row}
+use Rattle.ch_hierarchy.specs.Side.{rows_of, other}
 use Rattle.ch_hierarchy.specs.Paths.{IsUpwardPath, path_cost, IsLeastUpwardPath}
-use Rattle.ch_hierarchy.proofs.code.Ranked.{node_of_rank}
+use Rattle.ch_hierarchy.proofs.code.Ranked.{node_of_rank, rank_below}
+use Rattle.ch_query.specs.Distance.{IsKeptForSome}
 use Rattle.ch_query.specs.Limits.{IsMost, IsWithin}
 use Rattle.ch_query.specs.SearchSpace.{IsTight, IsRankedSpace}
+use Rattle.ch_query.specs.Weighed.{weighed_cost, weighed_leg}
+use Rattle.ch_query.specs.Weights.{weight_cost}
 use Rattle.ch_query.proofs.one_side.Expanding.{leg_up}
+use Rattle.ch_query.proofs.by_weight.LegsRead.{read_leg}
+use Rattle.ch_query.proofs.one_side.WeighedPaths.{weighed_avoids, weighed_row}
 use Rattle.ch_tree.specs.declared.sweep.TheConstants.{NEVER}
-use Rattle.ch_tree.specs.Spaces.{AreEntries, AreGathered, AreGatheredTo}
-use Rattle.ch_tree.specs.Tree.{place_of, IsAbove, AreFalling, AreKnownAbove, weight_at, AreUpCosts}
+use Rattle.ch_tree.specs.Spaces.{AreEntries, AreGathered, AreGatheredTo, IsBeaten, IsBeatenAt}
+use Rattle.ch_tree.specs.Tree.{place_of, IsAbove, AreFalling, weight_at, AreUpCosts, IsSweptTo}
 use Rattle.ch_tree.proofs.theory.Climbs.{above_itself, above_then, above_one, above_next, above_low, above_between}
 
 -- an entry that is appended is there, and all others stay
@@ -39,9 +49,9 @@ contains_last (z ∷ xs) x = contains_tail x z (xs ++ x ∷ []) (contains_last x
 alone : {X : Type 0} (R : X → X → Type 0) (x : X) → AllPairs R (x ∷ [])
 alone R x i j d lt below = absurd (omega arith)
 
-module _ (parents : List ℕ) (falls : AreFalling parents) (first most : ℕ) (costs : List ℕ) where
+module _ (MayGo : ℕ → Type 0) (parents : List ℕ) (falls : AreFalling parents) (first most : ℕ) (costs : List ℕ) where
   -- before the first place there is no entry
-  pub gather_begins : (list : List (ℕ × ℕ)) → list ≡ [] → first ≤ length costs → AreGatheredTo parents first most first costs list
+  pub gather_begins : (list : List (ℕ × ℕ)) → list ≡ [] → first ≤ length costs → AreGatheredTo MayGo parents first most first costs list
   gather_begins list none low = record {
     entries = record {
       distinct = subst (AllPairs (λ (a b : ℕ × ℕ). a.0 ≢ b.0)) (sym none) (λ i j d lt below. absurd (omega arith));
@@ -54,9 +64,9 @@ module _ (parents : List ℕ) (falls : AreFalling parents) (first most : ℕ) (c
 
   -- the entries after one more place
   pub gather_step : (place w : ℕ) (list new : List (ℕ × ℕ)) → 0 < place → place ≤ length costs → w ≡ weight_at costs (place - 1) →
-      AreGatheredTo parents first most place costs list →
-      ((w ≤ most) × (new ≡ list ++ (place - 1, w) ∷ [])) ⊎ ((most < w) × (new ≡ list)) →
-      AreGatheredTo parents first most (slice_index parents place) costs new
+      AreGatheredTo MayGo parents first most place costs list →
+      ((w ≤ most) × (new ≡ list ++ (place - 1, w) ∷ [])) ⊎ (((most < w) ⊎ MayGo (place - 1)) × (new ≡ list)) →
+      AreGatheredTo MayGo parents first most (slice_index parents place) costs new
   gather_step place w list new some within e is one = record {
     entries = entries_of one;
     here = above_then parents first place (slice_index parents place) is.here (above_one parents place);
@@ -65,7 +75,7 @@ module _ (parents : List ℕ) (falls : AreFalling parents) (first most : ℕ) (c
       | inr now ↦ let r : place - 1 ≡ rank = ap (λ (z : ℕ × ℕ). z.0) now.0 in omega arith
     ];
     whole = λ rank above past light. elim (cases_lt place (rank + 1)) [
-      | inl before ↦ old_of one rank (is.whole rank above before light)
+      | inl before ↦ elim (is.whole rank above before light) [ inl gone ↦ inl gone | inr has ↦ inr (old_of one rank has) ]
       | inr le ↦ elim (above_next parents place (rank + 1) (above_between parents falls first place (rank + 1) is.here above le)) [
         | inl same ↦ at one rank (omega arith) light
         | inr more ↦ (let low = above_low parents falls (slice_index parents place) (rank + 1) more in absurd (omega arith))
@@ -73,7 +83,8 @@ module _ (parents : List ℕ) (falls : AreFalling parents) (first most : ℕ) (c
     ];
   }
     where
-      cases_of : ((w ≤ most) × (new ≡ list ++ (place - 1, w) ∷ [])) ⊎ ((most < w) × (new ≡ list)) → (q : ℕ × ℕ) → Contains new q →
+      cases_of : ((w ≤ most) × (new ≡ list ++ (place - 1, w) ∷ [])) ⊎ (((most < w) ⊎ MayGo (place - 1)) × (new ≡ list)) →
+          (q : ℕ × ℕ) → Contains new q →
           Contains list q ⊎ (((place - 1, w) ≡ q) × (w ≤ most))
       cases_of (inr past) q c = inl (subst (λ (z : List (ℕ × ℕ)). Contains z q) past.1 c)
       cases_of (inl light) q c =
@@ -85,7 +96,8 @@ module _ (parents : List ℕ) (falls : AreFalling parents) (first most : ℕ) (c
             ]
           ]
 
-      entries_of : ((w ≤ most) × (new ≡ list ++ (place - 1, w) ∷ [])) ⊎ ((most < w) × (new ≡ list)) → AreEntries most costs new
+      entries_of : ((w ≤ most) × (new ≡ list ++ (place - 1, w) ∷ [])) ⊎ (((most < w) ⊎ MayGo (place - 1)) × (new ≡ list)) →
+          AreEntries most costs new
       entries_of (inr past) = subst (AreEntries most costs) (sym past.1) is.entries
       entries_of (inl light) = record {
         distinct = subst (AllPairs (λ (a b : ℕ × ℕ). a.0 ≢ b.0)) (sym light.1)
@@ -107,24 +119,26 @@ module _ (parents : List ℕ) (falls : AreFalling parents) (first most : ℕ) (c
         ];
       }
 
-      old_of : ((w ≤ most) × (new ≡ list ++ (place - 1, w) ∷ [])) ⊎ ((most < w) × (new ≡ list)) → (rank : ℕ) →
+      old_of : ((w ≤ most) × (new ≡ list ++ (place - 1, w) ∷ [])) ⊎ (((most < w) ⊎ MayGo (place - 1)) × (new ≡ list)) → (rank : ℕ) →
           Contains list (rank, weight_at costs rank) → Contains new (rank, weight_at costs rank)
       old_of (inl light) rank c = subst (λ (z : List (ℕ × ℕ)). Contains z (rank, weight_at costs rank)) (sym light.1)
           (contains_left list ((place - 1, w) ∷ []) (rank, weight_at costs rank) c)
       old_of (inr past) rank c = subst (λ (z : List (ℕ × ℕ)). Contains z (rank, weight_at costs rank)) (sym past.1) c
 
-      at : ((w ≤ most) × (new ≡ list ++ (place - 1, w) ∷ [])) ⊎ ((most < w) × (new ≡ list)) → (rank : ℕ) → place - 1 ≡ rank →
-          weight_at costs rank ≤ most → Contains new (rank, weight_at costs rank)
+      at : ((w ≤ most) × (new ≡ list ++ (place - 1, w) ∷ [])) ⊎ (((most < w) ⊎ MayGo (place - 1)) × (new ≡ list)) →
+          (rank : ℕ) → place - 1 ≡ rank →
+          weight_at costs rank ≤ most → MayGo rank ⊎ Contains new (rank, weight_at costs rank)
       at (inl light) rank same low =
           let its : w ≡ weight_at costs rank = e ∙ ap (weight_at costs) same in
-          subst (λ (z : List (ℕ × ℕ)). Contains z (rank, weight_at costs rank)) (sym light.1)
-          (subst (λ (q : ℕ × ℕ). Contains (list ++ (place - 1, w) ∷ []) q) (λ i. (same i, its i)) (contains_last list (place - 1, w)))
-      at (inr past) rank same low =
+          inr (subst (λ (z : List (ℕ × ℕ)). Contains z (rank, weight_at costs rank)) (sym light.1)
+          (subst (λ (q : ℕ × ℕ). Contains (list ++ (place - 1, w) ∷ []) q) (λ i. (same i, its i)) (contains_last list (place - 1, w))))
+      at (inr (inl heavy, is_old)) rank same low =
           let its : w ≡ weight_at costs rank = e ∙ ap (weight_at costs) same in
-          absurd (omega (arith, past.0, low, its))
+          absurd (omega (arith, heavy, low, its))
+      at (inr (inr gone, is_old)) rank same low = inl (subst MayGo same gone)
 
-module _ (H : LevelsAndLegs) (k : IsLevelled H) (side : Side) (parents : List ℕ) (s : ℕ) (s_low : s < nodes_of H) (costs : List ℕ)
-    (size : length costs ≡ nodes_of H) (known : AreKnownAbove parents (place_of H s) costs) (most : ℕ)
+module _ (H : LevelsAndLegs) (kept : IsKeptForSome H) (k : IsLevelled H) (side : Side) (parents : List ℕ) (s bound : ℕ)
+    (s_low : s < nodes_of H) (costs : List ℕ) (sw : IsSweptTo H side parents s bound 0 costs) (most : ℕ)
     (up : AreUpCosts H side s most costs) where
   -- the end of an upward path is a node
   path_end : (u v : ℕ) (legs : List Leg) → u < nodes_of H → IsUpwardPath (rows_of H side) u v legs → v < nodes_of H
@@ -136,9 +150,23 @@ module _ (H : LevelsAndLegs) (k : IsLevelled H) (side : Side) (parents : List �
   tight_path Up v c tight = tight.0
   tight_path Down v c tight = tight.0
 
+  -- a tight node is not beaten
+  unbeaten : (v : ℕ) (c : Cost) → IsTight H side s v c → weight_at costs (rank_of H v) ≡ c.weight → IsBeaten H side costs v → ⊥
+  unbeaten v c tight same (l, has, light) =
+      let there = leg_up H k (other side) v l has in
+      let small = sw.small (rank_of H v) in
+      weighed_avoids H kept side s v c tight v (weighed_cost c) [] (record {
+        leg = weighed_leg l;
+        has = subst (λ legs. Contains legs (weighed_leg l)) (sym (weighed_row H (other side) v))
+            (contains_map weighed_leg (row (rows_of H (other side)) v) l has);
+        cost = weight_cost (weight_at costs (rank_of H l.node));
+        reached = sw.sound l.node there.node (omega arith);
+        below = (omega (arith, light, same), λ le. absurd (omega (arith, light, same, le)));
+      }) refl (subst (λ q. IsAtMost q (weighed_cost c)) (sym (cost_sum-no_cost (weighed_cost c))) (IsAtMost_refl (weighed_cost c)))
+
   -- the entries are a search space
   pub space_of : (limit : Option ℕ) (list : List (ℕ × ℕ)) → IsMost limit most →
-      AreGathered parents (place_of H s) most costs list → IsRankedSpace H side limit s list
+      AreGathered (IsBeatenAt H side costs) parents (place_of H s) most costs list → IsRankedSpace H side limit s list
   space_of limit list is gathered = record {
     distinct = gathered.entries.distinct;
     sound = λ rank x c.
@@ -163,9 +191,38 @@ module _ (H : LevelsAndLegs) (k : IsLevelled H) (side : Side) (parents : List �
         let at_most = least.least other.0 other.1 (omega arith) in
         let le = at_most.0 in
         let same : weight_at costs (rank_of H v) ≡ c.weight = omega (arith, path.2, down, le, cost, other_cost) in
-        let above : IsAbove parents (place_of H s) (place_of H v) = elim (known (rank_of H v)) [
+        let above : IsAbove parents (place_of H s) (place_of H v) = elim (sw.known (rank_of H v)) [
           | inl none ↦ absurd (omega arith)
           | inr there ↦ there
-        ] in
-        (low, subst (λ z. Contains list (rank_of H v, z)) same (gathered.whole (rank_of H v) above (omega arith)));
+        ] in (
+          low,
+          subst (λ z. Contains list (rank_of H v, z)) same (elim (gathered.whole (rank_of H v) above (omega arith)) [
+            | inl beaten ↦ absurd (unbeaten v c tight same (beaten v low refl))
+            | inr has ↦ has
+          ]),
+        );
   }
+
+-- a leg that is read shows a lighter way to v
+pub shows_lighter : (H : LevelsAndLegs) → IsLevelled H → (side : Side) (v : ℕ) (costs : List ℕ) (items : List RankedLeg) (i : ℕ)
+    (d : RankedLeg) →
+    items ≡ map (ranked_leg H) (row (rows_of H (other side)) v) → i < length items →
+    weight_at costs (get_or items i d).rank + (get_or items i d).weight < weight_at costs (rank_of H v) → IsBeaten H side costs v
+shows_lighter H k side v costs items i d e lt light =
+    let m = contains_map_of (ranked_leg H) (row (rows_of H (other side)) v) (get_or items i d)
+    (subst (λ q. Contains q (get_or items i d)) e (Contains-get_or items i d lt)) in
+    let rank : weight_at costs (rank_of H m.0.node) ≡ weight_at costs (get_or items i d).rank =
+    ap (weight_at costs) (ap (λ (q : RankedLeg). q.rank) m.2) in
+    let weight : m.0.cost.weight ≡ (get_or items i d).weight = ap (λ (q : RankedLeg). q.weight) m.2 in
+    (m.0, m.1, omega (arith, light, rank, weight))
+
+-- a leg that is read leads to a node
+pub leg_within : (H : LevelsAndLegs) → IsLevelled H → (side : Side) (v : ℕ) (costs : List ℕ) (items : List RankedLeg) (i : ℕ)
+    (d : RankedLeg) →
+    length costs ≡ nodes_of H → items ≡ map (ranked_leg H) (row (rows_of H side) v) → i < length items →
+    (get_or items i d).rank < length costs
+leg_within H k side v costs items i d size e lt =
+    let r = read_leg H k side v items i d e lt in
+    let low = rank_below H k r.0.node r.1.node in
+    let rank = r.1.rank in
+    omega arith

@@ -21,8 +21,7 @@ pub loop-next-init : goal.loop-next-init
 loop-next-init c = (
   (λ side. lowered_none _ _ _ _ _ (c.requires.row side).1),
   omega arith,
-  λ k j d e lt le inside.
-      c.first_lowering-first.ensures.before k j d e lt inside,
+  λ k j d e lt le inside. absurd (omega (arith, lt)),
 )
 
 pub lower_pair-requires-clause-other : goal.lower_pair-requires-clause-other

@@ -27,9 +27,9 @@ loop-j-preserved c =
     let row = l.row in
     let old = get_or row stop.place None in
     let met = c.meet-met.result in
-    let result = c.first_met.result in
+    let result = c.put_first.new.cell in
     let new = set row stop.place result in
-    let first = c.first_met.ensures in
+    let first = c.put_first.ensures in
     let inside : stop.place < length row = (let low = c.requires.stops l.j none c.loop-j-test.true in omega (arith, low.0, inv.long)) in
     let made = c.meet-met.ensures in
     record {

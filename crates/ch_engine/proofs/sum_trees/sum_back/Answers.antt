@@ -18,7 +18,7 @@ returns c = λ lines values parents sums read before known.
     let side = c.args.side in
     let s = c.args.source in
     let both = c.joined.ensures known in
-    let leg = c.word_at-here.ensures lines values sums both.0 in
+    let leg = c.word_by_rank-here.ensures lines values sums both.0 in
     let e = c.sum_at.ensures both.1 in
     let rest : (steps : List DescentStep) → IsDescent (rows_of H side) s c.args.entry.parent steps →
     FollowsParents parents c.args.entry.parent steps → IsStepsSum side H lines values steps c.sum_at.result =
@@ -27,4 +27,4 @@ returns c = λ lines values parents sums read before known.
     (subst (λ (w : ℕ). (steps : List DescentStep) → IsDescent (rows_of H side) s e.0.node steps → FollowsParents parents e.0.node steps →
     IsStepsSum side H lines values steps w) e.3 (before e.0 e.1 (λ none. both.1 (sym e.3 ∙ none)))) in
     back_more side H lines values s parents c.requires.kept.2.levelled c.args.entry.node c.args.entry.parent c.if-entry-source.false read
-    leg.0 leg.1 leg.2 c.word_at-here.result c.sum_at.result c.joined.result leg.3 rest both.2
+    leg.0 leg.1 leg.2 c.word_by_rank-here.result c.sum_at.result c.joined.result leg.3 rest both.2

@@ -10,7 +10,8 @@ use Rattle.ch_engine.proofs.engine.Engine.table_sums.Goals as goal
 pub returns-then-not-are_both_nodes-clause-refused : goal.returns-then-not-are_both_nodes-clause-refused
 returns-then-not-are_both_nodes-clause-refused c =
     let nodes = nodes_of c.args.self.now.hierarchy in
-    let weighs : length c.args.weights.now ≡ length c.args.sources.now * length c.args.targets.now = search rules in
+    let weighs : length c.args.weights.now ≡ length c.args.sources.now * length c.args.targets.now =
+    search (c.checked_mul-cells.ensures, c.if-ne.ensures, rules) depth 8 in
     let long : length c.args.sums.now ≡ length c.args.sources.now * length c.args.targets.now = search rules in
     let values : length c.args.values.now ≡ c.args.self.now.lines.count = search rules in
     let strange : AreNodes nodes c.args.sources.now × AreNodes nodes c.args.targets.now → ⊥ = search rules in

@@ -29,6 +29,7 @@ loop-c-preserved c =
     c.deref.ensures.value c.in_ok-push_entries.ensures.adds in
     record {
       scratch = c.space.ensures.scratch ∙ l.invariant.scratch;
+      tree = c.space.ensures.tree;
       numbers = c.push_entries.ensures.slots ∙ l.invariant.numbers;
       low = c.in_ok-push_entries.ensures.pairs;
       pairs = spaces_more v.0 c.args.within c.args.targets.now l.c old (named new.slots.names new.pairs.items) _ made added

@@ -11,17 +11,18 @@ use Rattle.ch_engine.proofs.network.Network.find_row.Goals as goal
 pub meet_branches-requires-clause-branches : goal.meet_branches-requires-clause-branches
 meet_branches-requires-clause-branches c =
     let v = c.args.self.now in
-    let values = c.args.kept.now.values.items in
+    let values = c.args.table.now.kept.now.values.items in
     let made = subst (λ (es : List Branch). AreBranches Up v.0 v.1 values c.args.source es) (sym c.deref.ensures.value)
     c.in_ok-find_branches.ensures.branches in
     let stops = c.args.stops.now in
-    branches_small v.0 v.1 values c.args.targets.now stops.slots.now.names stops.rows c.requires.stops c.args.source c.deref.result.now made
+    branches_small v.0 v.1 values c.args.table.now.targets.now stops.slots.now.names stops.rows c.requires.stops c.args.source
+    c.deref.result.now made
 
 pub meet_branches-requires-clause-stops : goal.meet_branches-requires-clause-stops
 meet_branches-requires-clause-stops c =
     let v = c.args.self.now in
-    let values = c.args.kept.now.values.items in
-    let targets = c.args.targets.now in
+    let values = c.args.table.now.kept.now.values.items in
+    let targets = c.args.table.now.targets.now in
     let made = subst (λ (es : List Branch). AreBranches Up v.0 v.1 values c.args.source es) (sym c.deref.ensures.value)
     c.in_ok-find_branches.ensures.branches in
     let size : length c.in_ok-row.row.items ≡ length targets = ap length c.in_ok-row.ensures ∙ length-replicate (length targets) None in
@@ -32,8 +33,8 @@ meet_branches-requires-clause-stops c =
 pub returns-clause-row : goal.returns-clause-row
 returns-clause-row c =
     let v = c.args.self.now in
-    let values = c.args.kept.now.values.items in
-    let targets = c.args.targets.now in
+    let values = c.args.table.now.kept.now.values.items in
+    let targets = c.args.table.now.targets.now in
     let s = c.args.source in
     let row = c.in_ok-row.row in
     let new = c.meet_branches.new.row in

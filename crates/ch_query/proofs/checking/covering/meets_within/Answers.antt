@@ -1,12 +1,22 @@
--- Searches that are connected show a way within the bound, and searches that are past it show that there is none.
-use Rattle.std.proofs.Common.{sym}
-use Rattle.ch_query.proofs.two_sides.ConnectedSearches.{shown_covers}
+-- A sum within the bound shows a way, and searches that are past their sum show that there is none.
+use Rattle.std.proofs.Common.{refl}
+use Rattle.ch_query.proofs.one_side.Spreads.{underway_room}
+use Rattle.ch_query.proofs.two_sides.ConnectedSearches.{within_covers}
+use Rattle.ch_query.proofs.two_sides.MeetingSteps.{begun_meeting}
 use Rattle.ch_query.proofs.checking.covering.meets_within.Goals as goal
+
+pub loop-ups-init : goal.loop-ups-init
+loop-ups-init c = begun_meeting _ _ _ _ _ (c.begin.ensures.underway _ refl c.most_within.ensures.limits)
+    (c.begin-2.ensures.underway _ refl c.most_within.ensures.limits) c.begin.ensures.fresh
+
+pub clean-requires : goal.clean-requires
+clean-requires c = record { room = underway_room _ _ _ c.step_within.ensures.meeting.here }
+
+pub clean-requires-2 : goal.clean-requires-2
+clean-requires-2 c = record { room = underway_room _ _ _ c.step_within.ensures.meeting.there }
 
 pub returns-clause-covered : goal.returns-clause-covered
 returns-clause-covered c =
-    let i = c.loop-shown.invariant in
-    let way = shown_covers c.args.hierarchy.now i.ups.levelled c.loop-shown.up c.loop-shown.down c.args.start c.args.end c.args.most
-    c.loop-shown.shown i.up.0 i.down.0 i.up.1 i.down.1 i.shown
-    (sym c.loop-shown-test.ensures) in
-    rw (c.is_connected.ensures) (λ e. way.0 e, λ w. way.1 w)
+    let e = c.step_within.ensures in
+    within_covers c.args.hierarchy.now c.args.start c.args.end _ c.args.most c.most_within.ensures _ _ _ e.meeting
+    c.is_within.result c.is_within.ensures (e.stopped c.loop-ups-test.false)

@@ -10,10 +10,9 @@ use Rattle.ch_query.proofs.routes.ancestors.route_in.Goals as goal
 pub returns-clause-walk : goal.returns-clause-walk
 returns-clause-walk c =
     let H = c.args.hierarchy.now in
-    let met = c.meet_by_ancestors.ensures in
     elim c.match-meet_by_ancestors.branch [
       | in-Some w ↦ subst (λ r. IfOk r (IsRouteBy H c.args.start c.args.end)) (sym w.answer-is)
-          (found_walks H c.args.start c.args.end _ _ met.up.1 met.down.1 w.route_over-answer.result w.route_over-answer.ensures.route)
+          (found_walks H c.args.start c.args.end w.route_over-answer.result w.route_over-answer.ensures.route)
       | in-None w ↦ subst (λ r. IfOk r (IsRouteBy H c.args.start c.args.end)) (sym w.answer-is)
           (never_walks H c.args.start c.args.end w.in-None.ensures.least)
     ]
@@ -21,10 +20,9 @@ returns-clause-walk c =
 pub returns-clause-few : goal.returns-clause-few
 returns-clause-few c =
     let H = c.args.hierarchy.now in
-    let met = c.meet_by_ancestors.ensures in
     elim c.match-meet_by_ancestors.branch [
       | in-Some w ↦ subst (λ r. IfOk r (λ answer. MatchOption answer ⊤ (λ route. length route.arcs < nodes_of H))) (sym w.answer-is)
-          (found_few H c.args.start c.args.end _ _ met.up.1 met.down.1 w.route_over-answer.result w.route_over-answer.ensures.route
-          c.requires.kept c.requires.end)
+          (found_few H c.args.start c.args.end c.requires.kept c.requires.end w.route_over-answer.result
+          w.route_over-answer.ensures.route)
       | in-None w ↦ subst (λ r. IfOk r (λ answer. MatchOption answer ⊤ (λ route. length route.arcs < nodes_of H))) (sym w.answer-is) tt
     ]

@@ -7,12 +7,13 @@ use Rattle.ch_query.proofs.routes.descent.descend.Goals as goal
 pub loop-node-init : goal.loop-node-init
 loop-node-init c =
     let r = c.requires.reached in
-    record { traced = (r.0, r.1, tracing_starts c.args.hierarchy.now c.args.search.now c.args.meet c.args.pending.now r); capacity = refl }
+    record { traced = (r.0, r.1, tracing_starts c.args.hierarchy.now _ c.args.search.now c.args.meet c.args.pending.now r); capacity =
+        refl }
 
 pub rank-requires : goal.rank-requires
 rank-requires c =
     let t = c.loop-node.invariant.traced in
-    node_at_within c.args.hierarchy.now c.requires.kept _ _ _ t.0 t.1 _ _ t.2
+    node_at_within c.args.hierarchy.now c.requires.kept _ _ _ _ t.0 t.1 _ _ t.2
 
 pub parent-parent-requires : goal.parent-parent-requires
 parent-parent-requires c =
@@ -24,28 +25,28 @@ parent-parent-requires c =
 pub legs-requires : goal.legs-requires
 legs-requires c =
     let t = c.loop-node.invariant.traced in
-    parent_within c.args.hierarchy.now c.requires.kept _ _ _ t.0 t.1 _ _ t.2 c.loop-node-test.true c.parent-parent.result
-    (read_parent c.args.hierarchy.now c.requires.kept _ _ _ t.0 t.1 _ _ t.2 _ _ c.rank.ensures.rank c.parent-parent.ensures)
+    parent_within c.args.hierarchy.now c.requires.kept _ _ _ _ t.0 t.1 _ _ t.2 c.loop-node-test.true c.parent-parent.result
+    (read_parent c.args.hierarchy.now c.requires.kept _ _ _ _ t.0 t.1 _ _ t.2 _ _ c.rank.ensures.rank c.parent-parent.ensures)
 
 pub leg_at-leg-requires : goal.leg_at-leg-requires
 leg_at-leg-requires c =
     let t = c.loop-node.invariant.traced in
-    parent_has c.args.hierarchy.now c.requires.kept _ _ _ t.0 t.1 _ _ t.2 c.loop-node-test.true c.parent-parent.result
-    (read_parent c.args.hierarchy.now c.requires.kept _ _ _ t.0 t.1 _ _ t.2 _ _ c.rank.ensures.rank c.parent-parent.ensures)
+    parent_has c.args.hierarchy.now c.requires.kept _ _ _ _ t.0 t.1 _ _ t.2 c.loop-node-test.true c.parent-parent.result
+    (read_parent c.args.hierarchy.now c.requires.kept _ _ _ _ t.0 t.1 _ _ t.2 _ _ c.rank.ensures.rank c.parent-parent.ensures)
     c.legs.result.now c.legs.ensures.row
 
 pub push_reserved-requires : goal.push_reserved-requires
 push_reserved-requires c =
     let t = c.loop-node.invariant.traced in
-    room_for_leg c.args.hierarchy.now c.requires.kept _ _ _ t.0 t.1 _ _ t.2 c.loop-node-test.true c.parent-parent.result
-    (read_parent c.args.hierarchy.now c.requires.kept _ _ _ t.0 t.1 _ _ t.2 _ _ c.rank.ensures.rank c.parent-parent.ensures)
+    room_for_leg c.args.hierarchy.now c.requires.kept _ _ _ _ t.0 t.1 _ _ t.2 c.loop-node-test.true c.parent-parent.result
+    (read_parent c.args.hierarchy.now c.requires.kept _ _ _ _ t.0 t.1 _ _ t.2 _ _ c.rank.ensures.rank c.parent-parent.ensures)
     c.leg_at-leg.result c.legs.result.now c.legs.ensures.row c.leg_at-leg.ensures
 
 pub loop-node-smaller : goal.loop-node-smaller
 loop-node-smaller c =
     let t = c.loop-node.invariant.traced in
-    parent_lower c.args.hierarchy.now c.requires.kept _ _ _ t.0 t.1 _ _ t.2 c.loop-node-test.true c.parent-parent.result
-    (read_parent c.args.hierarchy.now c.requires.kept _ _ _ t.0 t.1 _ _ t.2 _ _ c.rank.ensures.rank c.parent-parent.ensures)
+    parent_lower c.args.hierarchy.now c.requires.kept _ _ _ _ t.0 t.1 _ _ t.2 c.loop-node-test.true c.parent-parent.result
+    (read_parent c.args.hierarchy.now c.requires.kept _ _ _ _ t.0 t.1 _ _ t.2 _ _ c.rank.ensures.rank c.parent-parent.ensures)
     c.leg_at-leg.result c.legs.result.now c.legs.ensures.row c.leg_at-leg.ensures
 
 pub loop-node-preserved : goal.loop-node-preserved
@@ -58,8 +59,8 @@ loop-node-preserved c =
       traced = (
         t.0,
         t.1,
-        tracing_step c.args.hierarchy.now c.requires.kept _ _ _ t.0 t.1 _ _ t.2 c.loop-node-test.true c.parent-parent.result
-            (read_parent c.args.hierarchy.now c.requires.kept _ _ _ t.0 t.1 _ _ t.2 _ _ c.rank.ensures.rank c.parent-parent.ensures)
+        tracing_step c.args.hierarchy.now c.requires.kept _ _ _ _ t.0 t.1 _ _ t.2 c.loop-node-test.true c.parent-parent.result
+            (read_parent c.args.hierarchy.now c.requires.kept _ _ _ _ t.0 t.1 _ _ t.2 _ _ c.rank.ensures.rank c.parent-parent.ensures)
             c.leg_at-leg.result c.legs.result.now c.legs.ensures.row c.leg_at-leg.ensures c.push_reserved.new.self
             (pushed.items ∙ ap (λ p. c.loop-node.pending.items ++ p ∷ []) same) pushed.len pushed.capacity,
       );
@@ -69,4 +70,4 @@ loop-node-preserved c =
 pub returns-clause-traced : goal.returns-clause-traced
 returns-clause-traced c =
     let t = c.loop-node.invariant.traced in
-    tracing_ends c.args.hierarchy.now c.requires.kept _ _ _ t.0 t.1 _ _ t.2 c.loop-node-test.false
+    tracing_ends c.args.hierarchy.now c.requires.kept _ _ _ _ t.0 t.1 _ _ t.2 c.loop-node-test.false

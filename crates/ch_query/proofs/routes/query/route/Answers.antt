@@ -1,5 +1,5 @@
 -- The only path of least weight is the route, and without a walk there is none.
-use Rattle.std.proofs.Common.{refl, subst}
+use Rattle.std.proofs.Common.{subst}
 use Rattle.ch_query.specs.Ways.{IsFirstTry}
 use Rattle.ch_query.specs.declared.routes.unique.FirstTry.{FirstTry}
 use Rattle.ch_query.proofs.routing.RouteAnswers.{never_walks, found_walks, found_few, way_route}
@@ -18,7 +18,7 @@ returns-in-Unique-clause-walk c =
     let legs = c.first_try.new.legs.items in
     let way = subst (λ (first : FirstTry). IsFirstTry H c.args.start c.args.end first legs) c.in-Unique.is
     (c.in_ok-first_try.ensures {u = tt}).legs in
-    found_walks H c.args.start c.args.end c.args.start c.args.end refl refl c.route_of.result
+    found_walks H c.args.start c.args.end c.route_of.result
     (way_route H c.args.start c.args.end c.in-Unique.weight way.0 legs way.1 way.2 c.route_of.result c.route_of.ensures)
 
 pub returns-in-Unique-clause-few : goal.returns-in-Unique-clause-few
@@ -27,6 +27,5 @@ returns-in-Unique-clause-few c =
     let legs = c.first_try.new.legs.items in
     let way = subst (λ (first : FirstTry). IsFirstTry H c.args.start c.args.end first legs) c.in-Unique.is
     (c.in_ok-first_try.ensures {u = tt}).legs in
-    found_few H c.args.start c.args.end c.args.start c.args.end refl refl c.route_of.result
-    (way_route H c.args.start c.args.end c.in-Unique.weight way.0 legs way.1 way.2 c.route_of.result c.route_of.ensures) c.requires.kept
-    c.requires.end
+    found_few H c.args.start c.args.end c.requires.kept c.requires.end c.route_of.result
+    (way_route H c.args.start c.args.end c.in-Unique.weight way.0 legs way.1 way.2 c.route_of.result c.route_of.ensures)

@@ -10,7 +10,8 @@ descend-requires-clause-reached c =
     let none = e.items ∙ q.empty in
     let size = ap length none in
     let ok = c.reserve.new.self.ok in
-    room_down c.args.hierarchy.now q.kept c.args.up.now c.args.down.now c.args.node c.args.cost q.meeting q.past q.sides q.meet
+    room_down c.args.hierarchy.now q.kept c.args.start c.args.end c.args.up.now c.args.down.now c.args.met.1 c.args.met.0 q.meeting q.past
+        q.meet
     c.reserve.new.self none (omega (arith, size, ok)) (omega (arith, e))
 
 pub descend-requires-2-clause-reached : goal.descend-requires-2-clause-reached
@@ -22,7 +23,8 @@ descend-requires-2-clause-reached c =
     let ok = c.reserve.new.self.ok in
     let fall = c.descend.ensures in
     let turn = c.reverse.ensures in
-    room_up c.args.hierarchy.now q.kept c.args.up.now c.args.down.now c.args.node c.args.cost q.meeting q.past q.sides q.meet
+    room_up c.args.hierarchy.now q.kept c.args.start c.args.end c.args.up.now c.args.down.now c.args.met.1 c.args.met.0 q.meeting q.past
+        q.meet
     c.reserve.new.self none (omega (arith, size, ok)) (omega (arith, e))
     c.descend.new.pending c.reverse.new.self fall.traced fall.capacity turn.permutation turn.len turn.capacity
 
@@ -37,8 +39,8 @@ returns c =
     let turn = c.reverse.ensures in
     let rise = c.descend-2.ensures in
     record {
-      legs = legs_over_meet c.args.hierarchy.now q.kept c.args.up.now c.args.down.now c.args.node c.args.cost q.meeting q.past q.sides
-          q.meet
+      legs = legs_over_meet c.args.hierarchy.now q.kept c.args.start c.args.end c.args.up.now c.args.down.now c.args.met.1 c.args.met.0
+          q.meeting q.past q.meet
           c.reserve.new.self none (omega (arith, size, ok)) (omega (arith, e))
           c.descend.new.pending c.reverse.new.self fall.traced fall.capacity turn.permutation turn.len turn.capacity
           c.descend-2.new.pending rise.traced rise.capacity turn.items;

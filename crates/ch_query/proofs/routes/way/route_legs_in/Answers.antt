@@ -1,5 +1,5 @@
 -- A meet of both sides gives the legs of the route, and without a meet there are none.
-use Rattle.std.proofs.Common.{ℕ, Vec, Global, true, sym, subst, ap, ◌∙◌}
+use Rattle.std.proofs.Common.{Vec, Global, true, sym, subst, ap, ◌∙◌}
 use Rattle.std.specs.Prelude.{IfOk}
 use Rattle.ch_query.specs.Ways.{AreLegsFound}
 use Rattle.ch_query.specs.declared.routes.unpacking.PendingLeg.{PendingLeg as AnyLeg}
@@ -13,16 +13,12 @@ returns-clause-legs c =
     let s = c.args.start in
     let t = c.args.end in
     let legs = c.match-meet.legs in
-    let met = c.meet.ensures in
     elim c.match-meet.branch [
       | in-Some+in-Ok w ↦ (
           let over = (w.in-Ok.ensures {u = tt}).legs in
-          let found = legs_found H c.requires.kept c.meet.new.up.source c.meet.new.down.source w.in-Some.cost w.legs_over.new.legs over in
-          let here : AreLegsFound H s t true w.legs_over.new.legs.items =
-          subst (λ (q : ℕ). AreLegsFound H q t true w.legs_over.new.legs.items) met.up.1
-          (subst (λ (q : ℕ). AreLegsFound H c.meet.new.up.source q true w.legs_over.new.legs.items) met.down.1 found) in
+          let found = legs_found H c.requires.kept s t _ w.legs_over.new.legs over in
           subst (λ r. IfOk r (λ found. AreLegsFound H s t found legs.items)) (sym w.found-is)
-          (subst (λ (l : Vec AnyLeg Global). AreLegsFound H s t true l.items) (sym w.legs-is) here))
+          (subst (λ (l : Vec AnyLeg Global). AreLegsFound H s t true l.items) (sym w.legs-is) found))
       | in-Some+in-Err w ↦ subst (λ r. IfOk r (λ found. AreLegsFound H s t found legs.items)) (sym w.found-is) tt
       | in-None w ↦ subst (λ r. IfOk r (λ found. AreLegsFound H s t found legs.items)) (sym w.found-is)
           (legs_missing H s t legs.items (w.in-None.ensures {u =

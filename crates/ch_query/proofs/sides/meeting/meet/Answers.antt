@@ -1,13 +1,16 @@
 -- Once all keys are past the least sum, it is the cost of the meet, or the two nodes never meet.
-use Rattle.std.proofs.Common.{◌∙◌}
-use Rattle.ch_query.proofs.two_sides.LeastMeeting.{meeting_between}
+use Rattle.std.proofs.Common.{refl, arith}
+use Rattle.ch_query.proofs.two_sides.LeastMeeting.{meeting_least}
+use Rattle.ch_query.proofs.two_sides.MeetingSteps.{begun_meeting}
 use Rattle.ch_query.proofs.sides.meeting.meet.Goals as goal
+
+pub loop-ups-init : goal.loop-ups-init
+loop-ups-init c = begun_meeting _ _ _ _ _ (c.begin.ensures.underway _ refl (omega arith)) (c.begin-2.ensures.underway _ refl (omega arith))
+    c.begin.ensures.fresh
 
 pub returns-clause-least : goal.returns-clause-least
 returns-clause-least c =
-    let i = c.loop.invariant in
     let e = c.step.ensures in
-    let past = e.stopped c.loop-test.false in
-    meeting_between c.args.hierarchy.now c.requires.kept c.step.new.up c.step.new.down c.step.new.least e.meeting
-    (e.up.side ∙ i.up.0) (e.down.side ∙ i.down.0)
-    past.0 past.1 c.args.start c.args.end (e.up.source ∙ i.up.1) (e.down.source ∙ i.down.1)
+    let past = e.stopped c.loop-ups-test.false in
+    meeting_least c.args.hierarchy.now c.requires.kept c.args.start c.args.end c.step.new.up c.step.new.down c.step.new.least e.meeting
+    past.0 past.1

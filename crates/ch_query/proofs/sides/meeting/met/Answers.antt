@@ -7,7 +7,7 @@ pub plus-requires : goal.plus-requires
 plus-requires c =
     let known = known_at c.args.hierarchy.now c.args.there.now c.args.rank c.in-Some.known
     (c.args.node, c.requires.node, c.requires.rank) (sym c.in-Some.ensures) in
-    let there = known_arcs c.args.hierarchy.now c.args.there.now c.args.node c.in-Some.known c.requires.there known in
+    let there = known_arcs c.args.hierarchy.now _ c.args.there.now c.args.node c.in-Some.known c.requires.there.1 known in
     let light = there.0 in
     let few = there.1 in
     let own = c.requires.cost in

@@ -3,9 +3,7 @@ use Rattle.std.proofs.Common.{inl, inr, refl, rules}
 use Rattle.ch_run.proofs.Owed.{err_as}
 use Rattle.ch_run.proofs.Stories.{dist_told}
 use Rattle.ch_run.proofs.Story.{ended, loads_serving, loads_stops, writes_none, writes_weaker}
-use Rattle.ch_run.proofs.Texts.{text_in_place}
-use Rattle.ch_run.specs.Source.{IsInPlaceOf}
-use Rattle.ch_run.specs.Text.{writes_routes}
+use Rattle.ch_run.proofs.Texts.{text_of_needed}
 use Rattle.ch_run.proofs.run.dist.run_dist.Goals as goal
 
 pub returns-in_err-loaded : goal.returns-in_err-loaded
@@ -30,13 +28,11 @@ pub returns : goal.returns
 returns g c =
     let read = rw c.graph.ensures.graph at c.in_ok-queries.ensures.read in
     let options = c.args.options.now in
-    let network = c.in_ok-loaded.loaded.graph in
-    let saved = c.in_ok-loaded.loaded.saved in
+    let loaded = c.in_ok-loaded.loaded in
     ended (λ went. (dist_told options went).later.1.delivers)
-    (loads_serving _ _ _ _ _ _ (λ k l. IsInPlaceOf c.writes_routes.result k l saved)
-    (λ h place.
-    let mine = text_in_place (writes_routes options) options.order options.hops.number network h saved (rw c.writes_routes.ensures at place)
-    _ _ c.in_ok-parts.ensures.text in
+    (loads_serving _ _ _ _ _ _ _ (λ h place.
+    let mine = text_of_needed options _ c.by_queries-needed.ensures loaded.graph h loaded.saved (place options.hops.number) _ _
+    c.in_ok-parts.ensures.text in
     let wrote = writes_weaker _ _ _ _ _ c.write_parts.result (rw c.deref-2.ensures.value (rw c.deref.ensures.value at mine))
     c.write_parts.ensures.wrote in
     inr (read.0, _, read.1, read.2, wrote))

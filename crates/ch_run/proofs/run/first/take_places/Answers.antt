@@ -6,5 +6,5 @@ use Rattle.ch_run.proofs.run.first.take_places.Goals as goal
 
 pub returns-clause-first : goal.returns-clause-first
 returns-clause-first g c = λ rest.
-    rw (c.new-2.ensures.items, c.new.ensures, c.in_ok-near.ensures, c.nodes.ensures, c.count-count.ensures)
+    rw (c.new.ensures.items, c.in_ok-search_from.ensures.places, c.nodes.ensures, c.count.ensures)
     (one_answered (Places c.args.places.now) refl)

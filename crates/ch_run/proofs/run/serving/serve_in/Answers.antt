@@ -1,53 +1,77 @@
--- After one more read all whole requests are answered, and a failed read, fault or write ends the answers there.
-use Rattle.std.proofs.Common.{◌<◌, length, refl, ap, ◌∙◌, arith}
+-- All whole requests are answered before each read, and a fault, new weights or a failed read end the answers there.
+use Rattle.std.proofs.Common.{◌≡◌, ◌<◌, ◌∙◌, ap, arith, false, length, sym, true}
 use Rattle.ch_read.specs.Requests.{Standing}
 use Rattle.ch_run.proofs.Owed.{ends_as}
-use Rattle.ch_run.proofs.Served.{one_read, served_none, serves_all, serves_memory, serves_refused, serves_stopped}
+use Rattle.ch_run.proofs.Served.{answered_on, end_read, no_weights, one_read, serves_all, serves_memory, serves_refused, serves_stopped}
+use Rattle.ch_run.proofs.run.serving.serve_in.Goals.{then-count-eq0, else-count-eq0+in_ok-feed}
 use Rattle.ch_run.proofs.run.serving.serve_in.Goals as goal
 
-pub loop-init : goal.loop-init
-loop-init g c = record {
-  room = c.requires.buffer;
-  kept = c.requires.room;
-  nodes = rw (c.new-reader.ensures, c.nodes.ensures.nodes, c.graph.ensures.graph) refl;
-  served = rw (c.new-reader.ensures, c.nodes.ensures.nodes, c.graph.ensures.graph, c.requires.none) served_none;
-  used_up = rw c.new-reader.ensures (refl, omega arith);
-  reads = refl;
-}
+pub returns-in_err-weights-clause-served : goal.returns-in_err-weights-clause-served
+returns-in_err-weights-clause-served g c =
+    rw (ends_as _ _ c.from_residual.ensures.1) (λ start first old h.
+    let had = c.loop.invariant.served start first old h in
+    serves_stopped had (c.in_err-weights.ensures.answered had.read first old had.has))
+
+pub returns-then-stream-clause-served : goal.returns-then-stream-clause-served
+returns-then-stream-clause-served g c =
+    let none = no_weights c.in_ok-weights.field-0 c.in_default.not-Some in
+    let ended : c.loop.stream.ended ≡ true = sym c.answer_whole.ensures.ended ∙ c.if-stream.true in
+    λ start first old h.
+    let had = c.loop.invariant.served start first old h in
+    serves_all (rw (none, ended) at (answered_on had c.in_ok-weights.ensures.answered))
+    (rw ended at (c.in_ok-weights.ensures.used_up none))
+
+pub returns-in_err-count-clause-served : goal.returns-in_err-count-clause-served
+returns-in_err-count-clause-served g c =
+    let none = no_weights c.in_ok-weights.field-0 c.in_default.not-Some in
+    let unended : c.loop.stream.ended ≡ false = sym c.answer_whole.ensures.ended ∙ c.if-stream.false in
+    let failed = c.in_err-count.ensures.failed in
+    rw (ends_as _ _ c.from_residual-in_err-count.ensures.1, c.in_err-count.ensures.own) (λ start first old h.
+    let had = c.loop.invariant.served start first old h in
+    serves_refused (rw (none, unended) at (answered_on had c.in_ok-weights.ensures.answered)) c.read_once.new.buffer failed.0
+    (rw unended at (c.in_ok-weights.ensures.used_up none)) failed.1)
+
+pub returns-in_err-feed-clause-served : goal.returns-in_err-feed-clause-served
+returns-in_err-feed-clause-served g c =
+    let none = no_weights c.in_ok-weights.field-0 c.in_default.not-Some in
+    let unended : c.loop.stream.ended ≡ false = sym c.answer_whole.ensures.ended ∙ c.if-stream.false in
+    rw (ends_as _ _ c.from_residual-in_err-feed.ensures.1) (λ start first old h.
+    let had = c.loop.invariant.served start first old h in
+    let answered = rw (none, unended) at (answered_on had c.in_ok-weights.ensures.answered) in
+    serves_memory (one_read answered c.in_ok-count.ensures.given (omega arith) c.in_ok-count.ensures.fits))
 
 pub loop-preserved : goal.loop-preserved
 loop-preserved g c =
-    let had = one_read c.loop.invariant.served c.in_ok-count.ensures.given (omega arith) c.in_ok-count.ensures.fits in
-    let answered = rw c.in_ok-feed.ensures.fed at c.in_ok-answer_whole.ensures.answered in
-    record {
-      room = (let some = c.loop.invariant.room in omega arith);
-      kept = c.in_ok-answer_whole.ensures.room;
-      nodes = c.in_ok-answer_whole.ensures.nodes ∙ ap (λ (s : Standing). s.nodes) c.in_ok-feed.ensures.fed ∙ c.loop.invariant.nodes;
-      served = record { read = had.read; gave = had.gave; has = answered had.read c.args.output.now had.has };
-      used_up = c.in_ok-answer_whole.ensures.used_up;
-      reads = c.in_ok-count.ensures.failures ∙ (let so_far = c.loop.invariant.reads in omega arith);
-    }
+    let none = no_weights c.in_ok-weights.field-0 c.in_default.not-Some in
+    let unended : c.loop.stream.ended ≡ false = sym c.answer_whole.ensures.ended ∙ c.if-stream.false in
+    let same_size = c.read_once.ensures.buffer ∙ c.loop.invariant.buffer in
+    let some : 0 < length c.read_once.new.buffer = (let room = c.requires.buffer in omega arith) in
+    let same_nodes = c.answer_whole.ensures.nodes ∙ c.loop.invariant.nodes in
+    let no_failure : g.J.Input.failed c.read_once.new.requests ≡ g.J.Input.failed c.args.requests.now =
+    c.in_ok-count.ensures.failures ∙ (let so_far = c.loop.invariant.reads in omega arith) in
+    elim c.if-count-eq0.branch [
+      | then-count-eq0 w ↦ record {
+        buffer = same_size;
+        kept = c.in_ok-weights.ensures.room;
+        nodes = rw w.stream-is same_nodes;
+        served = λ start first old h.
+            let had = c.loop.invariant.served start first old h in
+            let answered = rw (none, unended) at (answered_on had c.in_ok-weights.ensures.answered) in
+            rw w.stream-is (end_read answered c.read_once.new.buffer some (rw w.if-count-eq0.true at c.in_ok-count.ensures.given));
+        reads = no_failure;
+      }
+      | else-count-eq0+in_ok-feed w ↦ record {
+        buffer = same_size;
+        kept = c.in_ok-weights.ensures.room;
+        nodes = rw w.stream-is (ap (λ (s : Standing). s.nodes) w.in_ok-feed.ensures.fed ∙ same_nodes);
+        served = λ start first old h.
+            let had = c.loop.invariant.served start first old h in
+            let answered = rw (none, unended) at (answered_on had c.in_ok-weights.ensures.answered) in
+            rw (w.stream-is, w.in_ok-feed.ensures.fed, c.if-stream.false)
+            (one_read answered c.in_ok-count.ensures.given (omega arith) c.in_ok-count.ensures.fits);
+        reads = no_failure;
+      }
+    ]
 
-pub returns-in_err-count : goal.returns-in_err-count
-returns-in_err-count g c = let failed = c.in_err-count.ensures.failed in
-    rw (ends_as _ _ c.from_residual.ensures.1, c.in_err-count.ensures.own)
-    (serves_refused c.loop.invariant.served c.read_once.new.buffer failed.0 c.loop.invariant.used_up failed.1)
-
-pub returns-then-count-eq0 : goal.returns-then-count-eq0
-returns-then-count-eq0 g c =
-    let room : 0 < length c.read_once.new.buffer = (let some = c.loop.invariant.room in omega arith) in
-    serves_all c.loop.invariant.served c.read_once.new.buffer _ _ _ c.answer_whole.new.written c.answer_whole.result room
-    (rw c.if-count-eq0.true at c.in_ok-count.ensures.given) c.answer_whole.ensures.answered c.answer_whole.ensures.used_up
-
-pub returns-in_err-feed : goal.returns-in_err-feed
-returns-in_err-feed g c = rw (ends_as _ _ c.from_residual-in_err-feed.ensures.1)
-    (serves_memory (one_read c.loop.invariant.served c.in_ok-count.ensures.given (omega arith) c.in_ok-count.ensures.fits))
-
-pub returns-in_err-answer_whole : goal.returns-in_err-answer_whole
-returns-in_err-answer_whole g c =
-    let had = one_read c.loop.invariant.served c.in_ok-count.ensures.given (omega arith) c.in_ok-count.ensures.fits in
-    let answered = rw c.in_ok-feed.ensures.fed at c.in_err-answer_whole.ensures.answered in
-    rw (ends_as _ _ c.from_residual-in_err-answer_whole.ensures.1) (serves_stopped had (answered had.read c.args.output.now had.has))
-
-pub returns : goal.returns
-returns g c = serves_memory c.loop.invariant.served
+pub returns-clause-served : goal.returns-clause-served
+returns-clause-served g c = λ start first old h. serves_memory (c.loop.invariant.served start first old h)

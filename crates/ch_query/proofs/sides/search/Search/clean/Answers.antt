@@ -19,9 +19,7 @@ loop-rank-preserved c =
         parents = ap length c.clear-in-Some.ensures.parents ∙ i.room.parents ∙ sym size;
         touched = subst (λ costs. IsTouched costs c.pop.new.self) (sym c.clear-in-Some.ensures.costs)
             (touched_less _ _ c.pop.new.self i.room.touched c.in-Some.rank e.items e.cases e.capacity);
-        most = i.room.most;
       };
       empty = i.empty;
       nodes = size ∙ i.nodes;
-      side = i.side;
     }

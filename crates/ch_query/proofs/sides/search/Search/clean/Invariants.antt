@@ -9,7 +9,6 @@ invariant-loop-rank l = record {
   room : IsRoom l.self;
   empty : IsEmpty l.self.queue;
   nodes : length l.self.labels.costs ≡ length l.fn.self.labels.costs;
-  side : l.self.side ≡ l.fn.self.side;
 }
 
 abbrev pub decreases-loop-rank : goal.decreases-loop-rank

@@ -24,9 +24,8 @@ pub loop-leg-preserved : goal.loop-leg-preserved
 loop-leg-preserved c =
     let row = c.ranked_legs-leg-items.ensures.row _ c.requires.expanding.within (sym c.requires.rank) in
     ranked_step _ c.loop-leg.invariant row c.loop-leg-test.true _ c.relax.ensures.relaxes c.relax.ensures.touched
-    c.relax.ensures.same
 
 pub returns-clause-underway : goal.returns-clause-underway
 returns-clause-underway c =
     let row = c.ranked_legs-leg-items.ensures.row _ c.requires.expanding.within (sym c.requires.rank) in
-    partly_whole _ _ _ _ _ _ c.loop-leg.invariant (read_all c.args.hierarchy.now _ _ _ row c.loop-leg-test.false)
+    partly_whole _ _ _ _ _ _ _ c.loop-leg.invariant (read_all c.args.hierarchy.now _ _ _ row c.loop-leg-test.false)

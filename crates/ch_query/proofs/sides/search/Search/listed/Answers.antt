@@ -15,7 +15,7 @@ rank-requires c =
 pub get-requires : goal.get-requires
 get-requires c =
     let within = c.rank.ensures.within in
-    let size = c.requires.underway.sizes.0 in
+    let size = c.requires.underway.1.sizes.0 in
     omega arith
 
 pub loop-node-preserved : goal.loop-node-preserved

@@ -4,7 +4,7 @@ use Rattle.ch_query.proofs.one_side.Spreads.{item_rank, ranks_more, within_more,
 use Rattle.ch_query.proofs.sides.search.Search.touched_nodes.Goals as goal
 
 pub node_at-requires : goal.node_at-requires
-node_at-requires c = item_rank c.args.hierarchy.now c.args.self.now _ _ c.requires.underway.sizes c.requires.underway.touched
+node_at-requires c = item_rank c.args.hierarchy.now c.args.self.now _ _ c.requires.underway.1.sizes c.requires.underway.1.touched
     c.deref-rank-items.ensures.value c.loop-rank-test.true
 
 pub loop-rank-preserved : goal.loop-rank-preserved
@@ -25,6 +25,6 @@ returns c =
     let after = c.loop-rank.invariant in
     let past = c.loop-rank-test.false in
     let items = c.deref-rank-items.ensures.value in
-    touched_reached c.args.hierarchy.now c.requires.underway.levelled c.args.self.now c.requires.underway.touched _ _
+    touched_reached c.args.hierarchy.now c.requires.underway.1.levelled c.args.self.now c.requires.underway.1.touched _ _
     (after.ranks ∙ take_all _ _ (subst (λ q. length q ≤ c.loop-rank.rank-index) items past)) after.within
     c.sort_unstable.ensures.permutation c.sort_unstable.ensures.sorted
