@@ -89,7 +89,7 @@ pub record IsTakingLegs (H : LevelsAndLegs) (q : Question) (ranks : List ℕ) (c
 
 -- the least sum is at most that of each of the first `count` nodes that both searches have reached, and is that of two paths
 pub record AreMetTo (H : LevelsAndLegs) (q r : Question) (ranks : List ℕ) (count : ℕ) (x y : Search) (least : Option (Cost × ℕ)) : Type 0
-    where
-  pub seen : (v : ℕ) (a b : Cost) → IsAmong H ranks count v → cost_at (costs_of H x) v ≡ Some a → cost_at (costs_of H y) v ≡ Some b →
-      (e : Cost × ℕ) × (least ≡ Some e) × MeetsFirst e (cost_sum a b, v)
-  pub found : IsFoundBy H q r least
+  where
+    pub seen : (v : ℕ) (a b : Cost) → IsAmong H ranks count v → cost_at (costs_of H x) v ≡ Some a → cost_at (costs_of H y) v ≡ Some b →
+        (e : Cost × ℕ) × (least ≡ Some e) × MeetsFirst e (cost_sum a b, v)
+    pub found : IsFoundBy H q r least

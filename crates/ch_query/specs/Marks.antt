@@ -12,6 +12,7 @@ use Rattle.ch_hierarchy.specs.KeptLaws.{IsLeastMeeting}
 use Rattle.ch_hierarchy.specs.declared.side.Side.{Side}
 use Rattle.ch_hierarchy.specs.declared.side.Side.TheVariants.{Up, Down}
 use Rattle.ch_hierarchy.specs.Side.{rows_of, state_of}
+use Rattle.ch_query.specs.declared.question.Ends.{Ends}
 use Rattle.ch_query.specs.declared.weights.search.WeightSearch.{WeightSearch}
 use Rattle.ch_query.specs.declared.weights.marked.LeastSum.{LeastSum}
 use Rattle.ch_query.specs.declared.weights.marked.TheConstants.{TIED}
@@ -39,12 +40,12 @@ AreMarkedOr Idle H side x marks = (u : ℕ) (c : Cost) → IsSettled (side_costs
     Idle u c ⊎ ((l : Leg) → Contains (row (rows_of (weighed H) side) u) l → IsMarkedFrom H side x marks u c l)
 
 -- the marks of one side of a search between one settled state and the next
-abbrev pub AreMarked : LevelsAndLegs → Side → WeightSearch → List ℕ → Type 0
-AreMarked H side x marks = AreMarkedOr (is_idle_on H side (source_of x side)) H side x marks
+abbrev pub AreMarked : LevelsAndLegs → Ends → Side → WeightSearch → List ℕ → Type 0
+AreMarked H ends side x marks = AreMarkedOr (is_idle_on H side (source_of ends side)) H side x marks
 
 -- the same while the legs of v are being taken
-abbrev pub AreMarkedBut : LevelsAndLegs → Side → WeightSearch → List ℕ → ℕ → Type 0
-AreMarkedBut H side x marks v = AreMarkedOr (OrNode (is_idle_on H side (source_of x side)) v) H side x marks
+abbrev pub AreMarkedBut : LevelsAndLegs → Ends → Side → WeightSearch → List ℕ → ℕ → Type 0
+AreMarkedBut H ends side x marks v = AreMarkedOr (OrNode (is_idle_on H side (source_of ends side)) v) H side x marks
 
 -- there are as many marks as before, and those of this side are the same
 pub record KeepsMarks (side : Side) (old new : List ℕ) : Type 0 where
@@ -53,13 +54,13 @@ pub record KeepsMarks (side : Side) (old new : List ℕ) : Type 0 where
 
 -- the change when the node of this rank offers a weight to a state. At the known weight the state is tied, and otherwise it
 -- is marked with the rank if it gets the weight
-abbrev pub ShowsMark : WeightSearch → List ℕ → ℕ → ℕ → ℕ → WeightSearch → List ℕ → Type 0
-ShowsMark x old state weight rank y new =
+abbrev pub ShowsMark : ℕ → WeightSearch → List ℕ → ℕ → ℕ → ℕ → WeightSearch → List ℕ → Type 0
+ShowsMark most x old state weight rank y new =
     ((weight ≡ slice_index x.known.items state) × (y.known.items ≡ x.known.items) × (y.queue ≡ x.queue)
     × (new ≡ slice_set old state TIED))
     ⊎ ((weight ≢ slice_index x.known.items state) × (y.known.items ≡ x.known.items) × (y.queue ≡ x.queue)
-    × (weight ≤ x.most → slice_index x.known.items state ≤ weight) × (new ≡ old))
-    ⊎ ((weight ≤ x.most) × (weight < slice_index x.known.items state) × (y.known.items ≡ slice_set x.known.items state weight)
+    × (weight ≤ most → slice_index x.known.items state ≤ weight) × (new ≡ old))
+    ⊎ ((weight ≤ most) × (weight < slice_index x.known.items state) × (y.known.items ≡ slice_set x.known.items state weight)
     × (y.queue ≡ slice_set x.queue state (Some weight)) × (new ≡ slice_set old state rank))
 
 -- the least sum after a node of this rank has one: its rank stays only while no other node has the same sum
@@ -70,10 +71,10 @@ pub record IsAdded (old : LeastSum) (weight rank : ℕ) (new : LeastSum) : Type 
   pub kept : new.weight ≡ old.weight → Allows new.rank old.rank
 
 -- the least sum so far, and marks: its rank allows each node that both sides have settled at that sum
-pub record IsLeastMarked (H : LevelsAndLegs) (x : WeightSearch) (marks : List ℕ) (least : LeastSum) : Type 0 where
-  pub sum : IsLeastSoFar H x least.weight
+pub record IsLeastMarked (H : LevelsAndLegs) (ends : Ends) (x : WeightSearch) (marks : List ℕ) (least : LeastSum) : Type 0 where
+  pub sum : IsLeastSoFar H ends x least.weight
   pub count : length marks ≡ 2 * nodes_of H
-  pub marked : (side : Side) → AreMarked H side x marks
+  pub marked : (side : Side) → AreMarked H ends side x marks
   pub meets : (v : ℕ) (a b : Cost) → IsSettled (side_costs H Up x) (side_keys H Up x) v a →
       IsSettled (side_costs H Down x) (side_keys H Down x) v b → a.weight + b.weight ≡ least.weight → Allows least.rank (rank_of H v)
 

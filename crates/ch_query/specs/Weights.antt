@@ -11,6 +11,7 @@ use Rattle.ch_hierarchy.specs.Ranked.{rank_of}
 use Rattle.ch_hierarchy.specs.declared.side.Side.{Side}
 use Rattle.ch_hierarchy.specs.declared.side.Side.TheVariants.{Up, Down}
 use Rattle.ch_hierarchy.specs.Side.{rows_of, other, state_of}
+use Rattle.ch_query.specs.declared.question.Ends.{Ends}
 use Rattle.ch_query.specs.declared.weights.search.WeightSearch.{WeightSearch}
 use Rattle.ch_query.specs.Search.{IsSettled, IsRelaxedFrom, IsUpwardCost, IsExpanding, OrNode, IsStalled, IsEmpty, count_unsettled}
 use Rattle.ch_query.specs.Underway.{IsTouched}
@@ -37,9 +38,9 @@ abbrev pub side_keys : LevelsAndLegs → Side → WeightSearch → List (Option 
 side_keys H side x = by_state (option_map weight_cost) H side x.queue None
 
 -- the node where a side begins
-abbrev pub source_of : WeightSearch → Side → ℕ
-source_of x Up = x.start
-source_of x Down = x.end
+abbrev pub source_of : Ends → Side → ℕ
+source_of ends Up = ends.start
+source_of ends Down = ends.end
 
 -- v need not be expanded at this cost
 abbrev pub is_idle_on : LevelsAndLegs → Side → ℕ → ℕ → Cost → Type 0
@@ -52,29 +53,23 @@ pub record IsSizedFor (n : ℕ) (x : WeightSearch) : Type 0 where
   pub touched : IsTouched (map known_cost x.known.items) x.touched
 
 -- a search that has begun on this side, in the state between one settled state and the next
-pub record IsWeighingOn (H : LevelsAndLegs) (side : Side) (x : WeightSearch) : Type 0 where
+pub record IsWeighingOn (H : LevelsAndLegs) (ends : Ends) (side : Side) (x : WeightSearch) : Type 0 where
   pub levelled : IsLevelled H
   pub sizes : IsSizedFor (nodes_of H) x
-  pub search : IsWeightSearchTo x.most H side (source_of x side) (side_costs H side x) (side_keys H side x)
+  pub search : IsWeightSearchTo ends.most H side (source_of ends side) (side_costs H side x) (side_keys H side x)
 
 -- a search that has begun on both sides, for all paths
-pub record IsWeighing (H : LevelsAndLegs) (x : WeightSearch) : Type 0 where
-  pub most : x.most ≡ MOST_WEIGHT
-  pub sides : (side : Side) → IsWeighingOn H side x
+pub record IsWeighing (H : LevelsAndLegs) (ends : Ends) (x : WeightSearch) : Type 0 where
+  pub most : ends.most ≡ MOST_WEIGHT
+  pub sides : (side : Side) → IsWeighingOn H ends side x
 
 -- a search that is taking the legs of v on one side, where v was settled last, at this weight
-pub record IsWeighingAt (H : LevelsAndLegs) (side : Side) (x : WeightSearch) (v weight : ℕ) : Type 0 where
+pub record IsWeighingAt (H : LevelsAndLegs) (ends : Ends) (side : Side) (x : WeightSearch) (v weight : ℕ) : Type 0 where
   pub levelled : IsLevelled H
   pub sizes : IsSizedFor (nodes_of H) x
   pub within : v < nodes_of H
-  pub here : IsExpanding x.most (rows_of (weighed H) side) (source_of x side) (OrNode (is_idle_on H side (source_of x side)) v)
+  pub here : IsExpanding ends.most (rows_of (weighed H) side) (source_of ends side) (OrNode (is_idle_on H side (source_of ends side)) v)
       (side_costs H side x) (side_keys H side x) v (weight_cost weight)
-
--- both searches have the same source, target and limit
-pub record IsSameWeighing (x y : WeightSearch) : Type 0 where
-  pub start : y.start ≡ x.start
-  pub end : y.end ≡ x.end
-  pub most : y.most ≡ x.most
 
 -- this side has the same costs and keys as before
 pub record IsSameSide (H : LevelsAndLegs) (side : Side) (x y : WeightSearch) : Type 0 where
@@ -96,9 +91,8 @@ count_unsettled_states H x = count_unsettled_on H Up x + count_unsettled_on H Do
 
 -- y is x after this side has gone on from the state that it settled last: the other side and all settled states stay
 -- the same
-pub record HasGoneOn (H : LevelsAndLegs) (side : Side) (x y : WeightSearch) : Type 0 where
-  pub weighing : IsWeighingOn H side y
-  pub same : IsSameWeighing x y
+pub record HasGoneOn (H : LevelsAndLegs) (ends : Ends) (side : Side) (x y : WeightSearch) : Type 0 where
+  pub weighing : IsWeighingOn H ends side y
   pub there : IsSameSide H (other side) x y
   pub settled : KeepsSide H side x y
   pub stays : KeepsSide H side y x
@@ -110,17 +104,17 @@ UnreachedStateIsUnkeyed x state = slice_index x.known.items state ≡ UNREACHED 
 
 -- the change when a state is offered this weight: nothing, if no less is known or it is above the limit; otherwise
 -- the state gets it as weight and key
-abbrev pub ShowsWeight : WeightSearch → ℕ → ℕ → WeightSearch → Type 0
-ShowsWeight x state weight y =
-    ((y.known.items ≡ x.known.items) × (y.queue ≡ x.queue) × (weight ≤ x.most → slice_index x.known.items state ≤ weight))
-    ⊎ ((weight ≤ x.most) × (weight < slice_index x.known.items state) × (y.known.items ≡ slice_set x.known.items state weight)
+abbrev pub ShowsWeight : ℕ → WeightSearch → ℕ → ℕ → WeightSearch → Type 0
+ShowsWeight most x state weight y =
+    ((y.known.items ≡ x.known.items) × (y.queue ≡ x.queue) × (weight ≤ most → slice_index x.known.items state ≤ weight))
+    ⊎ ((weight ≤ most) × (weight < slice_index x.known.items state) × (y.known.items ≡ slice_set x.known.items state weight)
     × (y.queue ≡ slice_set x.queue state (Some weight)))
 
 -- y is the search x after these legs of v were taken
-pub record IsPartlyWeighed (H : LevelsAndLegs) (side : Side) (x y : WeightSearch) (v weight : ℕ) (legs : List Leg) : Type 0 where
-  pub same : IsSameWeighing x y
-  pub weighing : IsWeighingAt H side y v weight
-  pub relaxed : (l : Leg) → Contains legs l → IsRelaxedFrom y.most (side_costs H side y) (weight_cost weight) l
+pub record IsPartlyWeighed (H : LevelsAndLegs) (ends : Ends) (side : Side) (x y : WeightSearch) (v weight : ℕ) (legs : List Leg) :
+    Type 0 where
+  pub weighing : IsWeighingAt H ends side y v weight
+  pub relaxed : (l : Leg) → Contains legs l → IsRelaxedFrom ends.most (side_costs H side y) (weight_cost weight) l
   pub there : IsSameSide H (other side) x y
   pub settled : KeepsSide H side x y
   pub stays : KeepsSide H side y x
@@ -134,13 +128,13 @@ pub record IsCleanFor (n : ℕ) (x : WeightSearch) : Type 0 where
 
 -- the least sum is at most that of each node that both sides have settled, and if there is one, it is the sum of two
 -- paths
-pub record IsLeastSoFar (H : LevelsAndLegs) (x : WeightSearch) (least : ℕ) : Type 0 where
-  pub weighing : IsWeighing H x
+pub record IsLeastSoFar (H : LevelsAndLegs) (ends : Ends) (x : WeightSearch) (least : ℕ) : Type 0 where
+  pub weighing : IsWeighing H ends x
   pub small : least ≤ UNREACHED
   pub seen : (v : ℕ) (a b : Cost) → IsSettled (side_costs H Up x) (side_keys H Up x) v a →
       IsSettled (side_costs H Down x) (side_keys H Down x) v b → least ≤ a.weight + b.weight
   pub found : least < UNREACHED →
-      (v : ℕ) × (a b : Cost) × IsUpwardCost (rows_of (weighed H) Up) x.start v a × IsUpwardCost (rows_of (weighed H) Down) x.end v b
+      (v : ℕ) × (a b : Cost) × IsUpwardCost (rows_of (weighed H) Up) ends.start v a × IsUpwardCost (rows_of (weighed H) Down) ends.end v b
       × (a.weight + b.weight ≡ least)
 
 -- each remaining key is at least this
@@ -161,12 +155,12 @@ abbrev pub without_state : WeightSearch → ℕ → WeightSearch
 without_state x state = record x { queue = slice_set x.queue state None }
 
 -- ranks and weights of settled states of one side, each rank once, and among them all states that need to be expanded
-pub record AreUnstalledOn (H : LevelsAndLegs) (side : Side) (x : WeightSearch) (list : List (ℕ × ℕ)) : Type 0 where
+pub record AreUnstalledOn (H : LevelsAndLegs) (ends : Ends) (side : Side) (x : WeightSearch) (list : List (ℕ × ℕ)) : Type 0 where
   pub distinct : AllPairs (λ a b. a.0 ≢ b.0) list
   pub settled : (rank weight : ℕ) → Contains list (rank, weight) →
       (v : ℕ) × (v < nodes_of H) × (rank_of H v ≡ rank) × IsSettled (side_costs H side x) (side_keys H side x) v (weight_cost weight)
   pub whole : (v : ℕ) (c : Cost) → IsSettled (side_costs H side x) (side_keys H side x) v c →
-      is_idle_on H side (source_of x side) v c ⊎ Contains list (rank_of H v, c.weight)
+      is_idle_on H side (source_of ends side) v c ⊎ Contains list (rank_of H v, c.weight)
 
 -- no state of this side is settled
 abbrev pub IsFreshOn : LevelsAndLegs → Side → WeightSearch → Type 0
@@ -177,7 +171,7 @@ abbrev pub IsUnsettled : LevelsAndLegs → WeightSearch → Type 0
 IsUnsettled H x = (side : Side) → IsFreshOn H side x
 
 -- a search that has begun on this side alone, and has settled nothing
-pub record HasBegunOn (H : LevelsAndLegs) (side : Side) (x : WeightSearch) : Type 0 where
-  pub weighing : IsWeighingOn H side x
+pub record HasBegunOn (H : LevelsAndLegs) (ends : Ends) (side : Side) (x : WeightSearch) : Type 0 where
+  pub weighing : IsWeighingOn H ends side x
   pub alone : IsEmpty (side_keys H (other side) x)
   pub fresh : IsFreshOn H side x

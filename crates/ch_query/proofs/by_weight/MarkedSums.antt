@@ -8,6 +8,7 @@ use Rattle.ch_hierarchy.specs.Ranked.{rank_of}
 use Rattle.ch_hierarchy.specs.declared.side.Side.{Side}
 use Rattle.ch_hierarchy.specs.declared.side.Side.TheVariants.{Up, Down}
 use Rattle.ch_hierarchy.specs.Side.{other, state_of}
+use Rattle.ch_query.specs.declared.question.Ends.{Ends}
 use Rattle.ch_query.specs.declared.weights.search.WeightSearch.{WeightSearch}
 use Rattle.ch_query.specs.declared.weights.marked.LeastSum.{LeastSum}
 use Rattle.ch_query.specs.Marks.{Allows, AreMarked, KeepsMarks, IsAdded, IsLeastMarked}
@@ -16,8 +17,7 @@ use Rattle.ch_query.specs.Weights.{side_costs, side_keys, IsLeastSoFar, IsLeastS
 use Rattle.ch_query.proofs.by_weight.Known.{known_weight}
 use Rattle.ch_query.proofs.by_weight.Marking.{marked_stays}
 use Rattle.ch_query.proofs.by_weight.WeighingPops.{pop_settled}
-use Rattle.ch_query.proofs.by_weight.WeighingSteps.{same_source}
-use Rattle.ch_query.proofs.by_weight.WeighingSums.{each_side, known_there, least_then, other_side, same, seen_from}
+use Rattle.ch_query.proofs.by_weight.WeighingSums.{each_side, known_there, least_then, other_side, seen_from}
 
 -- the rank of the least sum allows each node that has this sum, seen from one side
 abbrev MeetsOn : LevelsAndLegs → WeightSearch → LeastSum → Side → Type 0
@@ -41,38 +41,39 @@ allows_then new old rank (inl tied) allows = inl tied
 allows_then new old rank (inr same) allows = subst (λ q. Allows q rank) (sym same) allows
 
 -- before a state is settled no sum is known
-pub marked_begun : (H : LevelsAndLegs) (x : WeightSearch) (marks : List ℕ) (least : LeastSum) → least.weight ≡ UNREACHED →
-    length marks ≡ 2 * nodes_of H → IsLeastSoFar H x UNREACHED → IsUnsettled H x → IsLeastMarked H x marks least
-marked_begun H x marks least none count sum unsettled = record {
-  sum = subst (IsLeastSoFar H x) (sym none) sum;
+pub marked_begun : (H : LevelsAndLegs) (ends : Ends) (x : WeightSearch) (marks : List ℕ) (least : LeastSum) → least.weight ≡ UNREACHED →
+    length marks ≡ 2 * nodes_of H → IsLeastSoFar H ends x UNREACHED → IsUnsettled H x → IsLeastMarked H ends x marks least
+marked_begun H ends x marks least none count sum unsettled = record {
+  sum = subst (IsLeastSoFar H ends x) (sym none) sum;
   count = count;
   marked = λ side u c settled. absurd (unsettled side u c settled);
   meets = λ v a b up down e. absurd (unsettled Up v a up);
 }
 
 -- x settles the node v on one side, goes on from there, and becomes z; the other side may know v at the weight `there`
-module _ (H : LevelsAndLegs) (x z : WeightSearch) (marks marks' : List ℕ) (least least' : LeastSum) (m : IsLeastMarked H x marks least)
+module _ (H : LevelsAndLegs) (ends : Ends) (x z : WeightSearch) (marks marks' : List ℕ) (least least' : LeastSum)
+    (m : IsLeastMarked H ends x marks least)
     (side : Side) (v weight state : ℕ) (within : v < nodes_of H) (is : state ≡ state_of side (rank_of H v))
-    (l : IsLeastState x.queue (weight, state)) (g : HasGoneOn H side (without_state x state) z)
+    (l : IsLeastState x.queue (weight, state)) (g : HasGoneOn H ends side (without_state x state) z)
     (there : ℕ) (at_there : there ≡ get_or x.known.items (state_of (other side) (rank_of H v)) UNREACHED)
     (rank : ℕ) (at_rank : rank_of H v ≡ rank) (added : IsAdded least (weight + there) rank least')
-    (marked : AreMarked H side z marks') (kept : KeepsMarks (other side) marks marks') where
+    (marked : AreMarked H ends side z marks') (kept : KeepsMarks (other side) marks marks') where
   -- the rank allows each node that has the new sum
   meets : MeetsOn H z least' side
   meets u a b here over sum =
       let s = m.sum in
-      let others = other_side H x z least.weight s side v weight state within is l g in
+      let others = other_side H ends x z least.weight s side v weight state within is l g in
       let old : IsSettled (side_costs H (other side) x) (side_keys H (other side) x) u b =
       (sym (ap (λ q. cost_at q u) others.costs) ∙ over.0, sym (ap (λ q. cost_at q u) others.keys) ∙ over.1) in
-      elim (pop_settled H side x (s.weighing.sides side) v weight state within is l u a (g.settled u a here)) [
+      elim (pop_settled H ends side x (s.weighing.sides side) v weight state within is l u a (g.settled u a here)) [
         | inl was ↦
-            let le = seen_from H x least.weight s side u a b was old in
+            let le = seen_from H ends x least.weight s side u a b was old in
             let low = added.low.0 in
             let stays : least'.weight ≡ least.weight = omega arith in
             allows_then least'.rank least.rank (rank_of H u) (added.kept stays)
             (meets_from H x least m.meets side u a b was old (sum ∙ stays))
         | inr new ↦
-            let known = known_there H x z least.weight s side v weight state within is l g there at_there least'.weight added.low.0
+            let known = known_there H ends x z least.weight s side v weight state within is l g there at_there least'.weight added.low.0
             added.low.1
             added.either in
             let b_there = known_weight there b (sym known ∙ ap (cost_at (side_costs H (other side) x)) (sym new.0) ∙ old.0) in
@@ -83,18 +84,17 @@ module _ (H : LevelsAndLegs) (x z : WeightSearch) (marks marks' : List ℕ) (lea
       ]
 
   -- the new sum and the new marks are those of the search so far
-  pub marked_then : IsLeastMarked H z marks' least'
+  pub marked_then : IsLeastMarked H ends z marks' least'
   marked_then =
       let s = m.sum in
-      let others = other_side H x z least.weight s side v weight state within is l g in
-      let ends = same H x z least.weight s side v weight state within is l g in
+      let others = other_side H ends x z least.weight s side v weight state within is l g in
       let low = added.low in
       let sizes = kept.count in
       let count = m.count in
       record {
-        sum = least_then H x z least.weight s side v weight state within is l g there at_there least'.weight low.0 low.1 added.either;
+        sum = least_then H ends x z least.weight s side v weight state within is l g there at_there least'.weight low.0 low.1 added.either;
         count = sizes ∙ count;
-        marked = each_side side (λ q. AreMarked H q z marks') marked
-            (marked_stays H (other side) x z marks marks' others (same_source x z ends (other side)) kept (m.marked (other side)));
+        marked = each_side side (λ q. AreMarked H ends q z marks') marked
+            (marked_stays H ends (other side) x z marks marks' others kept (m.marked (other side)));
         meets = meets_up H z least' side meets;
       }

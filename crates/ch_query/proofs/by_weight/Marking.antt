@@ -18,6 +18,7 @@ use Rattle.ch_hierarchy.specs.Ranked.{rank_of}
 use Rattle.ch_hierarchy.specs.declared.side.Side.{Side}
 use Rattle.ch_hierarchy.specs.Side.{rows_of, other, state_of}
 use Rattle.ch_hierarchy.proofs.code.Ranked.{rank_below, rank_one}
+use Rattle.ch_query.specs.declared.question.Ends.{Ends}
 use Rattle.ch_query.specs.declared.weights.search.WeightSearch.{WeightSearch}
 use Rattle.ch_query.specs.declared.weights.marked.TheConstants.{TIED}
 use Rattle.ch_query.specs.Marks.{Allows, mark_of, IsMarkedFrom, AreMarked, AreMarkedBut, KeepsMarks, ShowsMark}
@@ -28,15 +29,14 @@ use Rattle.ch_query.specs.Weights.{IsWeighingAt, IsWeighingOn, IsSameSide, IsPar
 use Rattle.ch_query.proofs.by_weight.Known.{light_cost, known_weight}
 use Rattle.ch_query.proofs.by_weight.LegsRead.{IsReadLeg, read_state}
 use Rattle.ch_query.proofs.by_weight.States.{by_state-at, by_state-set, by_state-some, state_one, state_apart, state_below}
-use Rattle.ch_query.proofs.by_weight.WeighingPops.{pop_settled, source_stays}
-use Rattle.ch_query.proofs.by_weight.WeighingSteps.{same_source}
+use Rattle.ch_query.proofs.by_weight.WeighingPops.{pop_settled}
 
 -- a marked change is a change of the search
-pub marked_shows : (x y : WeightSearch) (old new : List ℕ) (state weight rank : ℕ) → ShowsMark x old state weight rank y new →
-    ShowsWeight x state weight y
-marked_shows x y old new state weight rank (inl (tie, known, queue, marks)) = inl (known, queue, λ low. omega arith)
-marked_shows x y old new state weight rank (inr (inl (away, known, queue, most, marks))) = inl (known, queue, most)
-marked_shows x y old new state weight rank (inr (inr (light, less, known, queue, marks))) = inr (light, less, known, queue)
+pub marked_shows : (most : ℕ) (x y : WeightSearch) (old new : List ℕ) (state weight rank : ℕ) →
+    ShowsMark most x old state weight rank y new → ShowsWeight most x state weight y
+marked_shows limit x y old new state weight rank (inl (tie, known, queue, marks)) = inl (known, queue, λ low. omega arith)
+marked_shows limit x y old new state weight rank (inr (inl (away, known, queue, most, marks))) = inl (known, queue, most)
+marked_shows limit x y old new state weight rank (inr (inr (light, less, known, queue, marks))) = inr (light, less, known, queue)
 
 -- a mark is written at the state of the node n on a side
 module _ (H : LevelsAndLegs) (k : IsLevelled H) (side : Side) (marks : List ℕ) (count : length marks ≡ 2 * nodes_of H)
@@ -61,10 +61,11 @@ module _ (H : LevelsAndLegs) (k : IsLevelled H) (side : Side) (marks : List ℕ)
   }
 
 -- the node v offers a weight to the end of its leg l
-module _ (H : LevelsAndLegs) (k : IsLevelled H) (side : Side) (y z : WeightSearch) (marks marks' : List ℕ) (v weight : ℕ) (l : Leg)
-    (sum state rank : ℕ) (sizes : IsSizedFor (nodes_of H) y) (count : length marks ≡ 2 * nodes_of H) (limit : y.most ≤ MOST_WEIGHT)
+module _ (H : LevelsAndLegs) (k : IsLevelled H) (ends : Ends) (side : Side) (y z : WeightSearch) (marks marks' : List ℕ) (v weight : ℕ)
+    (l : Leg)
+    (sum state rank : ℕ) (sizes : IsSizedFor (nodes_of H) y) (count : length marks ≡ 2 * nodes_of H) (limit : ends.most ≤ MOST_WEIGHT)
     (within : l.node < nodes_of H) (at : state ≡ state_of side (rank_of H l.node)) (is : rank_of H v ≡ rank)
-    (total : cost_sum (weight_cost weight) l.cost ≡ weight_cost sum) (shows : ShowsMark y marks state sum rank z marks') where
+    (total : cost_sum (weight_cost weight) l.cost ≡ weight_cost sum) (shows : ShowsMark ends.most y marks state sum rank z marks') where
   -- the weight that is known of the end
   stands : cost_at (side_costs H side y) l.node ≡ known_cost (get_or y.known.items state 0)
   stands =
@@ -79,7 +80,7 @@ module _ (H : LevelsAndLegs) (k : IsLevelled H) (side : Side) (y z : WeightSearc
   costs_same e = ap (λ q. by_state known_cost H side q UNREACHED) e
 
   -- if the state gets the sum, the end costs it
-  costs_less : z.known.items ≡ set y.known.items state sum → sum ≤ y.most →
+  costs_less : z.known.items ≡ set y.known.items state sum → sum ≤ ends.most →
       side_costs H side z ≡ set (side_costs H side y) l.node (Some (weight_cost sum))
   costs_less e low =
       ap (λ q. by_state known_cost H side q UNREACHED) (e ∙ ap (λ q. set y.known.items q sum) at)
@@ -87,7 +88,7 @@ module _ (H : LevelsAndLegs) (k : IsLevelled H) (side : Side) (y z : WeightSearc
       ∙ ap (set (side_costs H side y) l.node) (light_cost sum (omega arith))
 
   -- the end costs the sum then
-  cost_less : z.known.items ≡ set y.known.items state sum → sum ≤ y.most → cost_at (side_costs H side z) l.node ≡ Some (weight_cost sum)
+  cost_less : z.known.items ≡ set y.known.items state sum → sum ≤ ends.most → cost_at (side_costs H side z) l.node ≡ Some (weight_cost sum)
   cost_less e low =
       let low_end = state_below side (rank_of H l.node) (nodes_of H) (rank_below H k l.node within) in
       let size = sizes.known in
@@ -121,8 +122,8 @@ module _ (H : LevelsAndLegs) (k : IsLevelled H) (side : Side) (y z : WeightSearc
   ]
 
   -- a leg to the same end that was taken before gives a greater weight
-  dearer : (c : Cost) (j : Leg) → j.node ≡ l.node → sum ≤ y.most → sum < get_or y.known.items state 0 →
-      z.known.items ≡ set y.known.items state sum → IsRelaxedFrom y.most (side_costs H side y) c j →
+  dearer : (c : Cost) (j : Leg) → j.node ≡ l.node → sum ≤ ends.most → sum < get_or y.known.items state 0 →
+      z.known.items ≡ set y.known.items state sum → IsRelaxedFrom ends.most (side_costs H side y) c j →
       cost_at (side_costs H side z) j.node ≡ Some (cost_sum c j.cost) → ⊥
   dearer c j same low less known relaxed e =
       let equal : weight_cost sum ≡ cost_sum c j.cost =
@@ -135,7 +136,7 @@ module _ (H : LevelsAndLegs) (k : IsLevelled H) (side : Side) (y z : WeightSearc
       omega (arith, weighs, old_is, le, less)
 
   -- the leg j of u stays marked
-  pub mark_kept : (u : ℕ) (c : Cost) (j : Leg) → IsRelaxedFrom y.most (side_costs H side y) c j → IsMarkedFrom H side y marks u c j →
+  pub mark_kept : (u : ℕ) (c : Cost) (j : Leg) → IsRelaxedFrom ends.most (side_costs H side y) c j → IsMarkedFrom H side y marks u c j →
       IsMarkedFrom H side z marks' u c j
   mark_kept u c j relaxed marked e =
       let low = (by_state-some known_cost H side z.known.items UNREACHED j.node (cost_sum c j.cost) e).0 in
@@ -162,18 +163,19 @@ module _ (H : LevelsAndLegs) (k : IsLevelled H) (side : Side) (y z : WeightSearc
       ]
 
 -- the marks of x after these legs of v were taken, and the search is y
-pub record IsPartlyMarked (H : LevelsAndLegs) (side : Side) (x y : WeightSearch) (v weight : ℕ) (old new : List ℕ) (legs : List Leg) :
+pub record IsPartlyMarked (H : LevelsAndLegs) (ends : Ends) (side : Side) (x y : WeightSearch) (v weight : ℕ) (old new : List ℕ)
+    (legs : List Leg) :
     Type 0 where
   pub others : (u : ℕ) (c : Cost) → IsSettled (side_costs H side x) (side_keys H side x) u c →
-      OrNode (is_idle_on H side (source_of x side)) v u c
+      OrNode (is_idle_on H side (source_of ends side)) v u c
       ⊎ ((l : Leg) → Contains (row (rows_of (weighed H) side) u) l → IsMarkedFrom H side y new u c l)
   pub taken : (l : Leg) → Contains legs l → IsMarkedFrom H side y new v (weight_cost weight) l
   pub there : KeepsMarks (other side) old new
 
 -- before the first leg nothing has changed
-pub partly_unmarked : (H : LevelsAndLegs) (side : Side) (x : WeightSearch) (v weight : ℕ) (marks : List ℕ) →
-    AreMarkedBut H side x marks v → IsPartlyMarked H side x x v weight marks marks []
-partly_unmarked H side x v weight marks marked = record {
+pub partly_unmarked : (H : LevelsAndLegs) (ends : Ends) (side : Side) (x : WeightSearch) (v weight : ℕ) (marks : List ℕ) →
+    AreMarkedBut H ends side x marks v → IsPartlyMarked H ends side x x v weight marks marks []
+partly_unmarked H ends side x v weight marks marked = record {
   others = marked;
   taken = λ l has. absurd (let lt = has.1 in omega arith);
   there = record { count = refl; same = λ rank. refl };
@@ -185,13 +187,14 @@ keeps_then side a b c first second =
     record { count = second.count ∙ first.count; same = λ rank. second.same rank ∙ first.same rank }
 
 -- the leg at place i is taken
-pub marked_more : (H : LevelsAndLegs) (side : Side) (x y z : WeightSearch) (v weight i : ℕ) (r : RankedLeg) (l : Leg) (state rank : ℕ)
+pub marked_more : (H : LevelsAndLegs) (ends : Ends) (side : Side) (x y z : WeightSearch) (v weight i : ℕ) (r : RankedLeg) (l : Leg)
+    (state rank : ℕ)
     (old marks marks' : List ℕ) → rank_of H v ≡ rank → length old ≡ 2 * nodes_of H →
-    IsPartlyWeighed H side x y v weight (take i (row (rows_of (weighed H) side) v)) →
-    IsPartlyMarked H side x y v weight old marks (take i (row (rows_of (weighed H) side) v)) → IsReadLeg H side v i r l →
-    state ≡ state_of side r.rank → ShowsMark y marks state (weight + r.weight) rank z marks' →
-    IsPartlyMarked H side x z v weight old marks' (take (i + 1) (row (rows_of (weighed H) side) v))
-marked_more H side x y z v weight i r l state rank old marks marks' at_rank many p q is at shows =
+    IsPartlyWeighed H ends side x y v weight (take i (row (rows_of (weighed H) side) v)) →
+    IsPartlyMarked H ends side x y v weight old marks (take i (row (rows_of (weighed H) side) v)) → IsReadLeg H side v i r l →
+    state ≡ state_of side r.rank → ShowsMark ends.most y marks state (weight + r.weight) rank z marks' →
+    IsPartlyMarked H ends side x z v weight old marks' (take (i + 1) (row (rows_of (weighed H) side) v))
+marked_more H ends side x y z v weight i r l state rank old marks marks' at_rank many p q is at shows =
     let k = p.weighing.levelled in
     let legs = take i (row (rows_of (weighed H) side) v) in
     let there = read_state H k side side v i r l is state at in
@@ -201,33 +204,34 @@ marked_more H side x y z v weight i r l state rank old marks marks' at_rank many
     let limit = p.weighing.here.search.limits in
     let total : cost_sum (weight_cost weight) (weighed_leg l).cost ≡ weight_cost (weight + r.weight) =
     ap (λ w. weight_cost (weight + w)) (sym heavy) in
-    let kept = mark_kept H k side y z marks marks' v weight (weighed_leg l) (weight + r.weight) state rank p.weighing.sizes count limit
+    let kept = mark_kept H k ends side y z marks marks' v weight (weighed_leg l) (weight + r.weight) state rank p.weighing.sizes count limit
     is.node there.0 at_rank total shows in
     record {
       others = λ u c settled. elim (q.others u c settled) [
         | inl idle ↦ inl idle
         | inr marked ↦ elim (p.weighing.here.search.frontier u c (p.stays u c settled)) [
-          | inl idle ↦ inl (subst (λ s. OrNode (is_idle_on H side s) v u c) (same_source x y p.same side) idle)
+          | inl idle ↦ inl idle
           | inr relaxed ↦ inr (λ j has. kept u c j (relaxed j has) (marked j has))
         ]
       ];
       taken = λ j has. elim (Contains-push_cases legs (weighed_leg l) j (subst (λ ks. Contains ks j) is.more has)) [
         | inl before ↦ kept v (weight_cost weight) j (p.relaxed j before) (q.taken j before)
         | inr last ↦ subst (IsMarkedFrom H side z marks' v (weight_cost weight)) last
-            (mark_new H k side y z marks marks' v weight (weighed_leg l) (weight + r.weight) state rank p.weighing.sizes count limit
+            (mark_new H k ends side y z marks marks' v weight (weighed_leg l) (weight + r.weight) state rank p.weighing.sizes count limit
             is.node there.0 at_rank total shows)
       ];
       there = keeps_then (other side) old marks marks' q.there
-          (there_kept H k side y z marks marks' v weight (weighed_leg l) (weight + r.weight) state rank p.weighing.sizes count limit
+          (there_kept H k ends side y z marks marks' v weight (weighed_leg l) (weight + r.weight) state rank p.weighing.sizes count limit
           is.node there.0 at_rank total shows);
     }
 
 -- all legs are taken
-pub marked_whole : (H : LevelsAndLegs) (side : Side) (x y : WeightSearch) (v weight : ℕ) (old marks : List ℕ) (legs : List Leg) →
-    IsPartlyWeighed H side x y v weight legs → IsPartlyMarked H side x y v weight old marks legs →
-    legs ≡ row (rows_of (weighed H) side) v → AreMarked H side y marks
-marked_whole H side x y v weight old marks legs p q e u c settled = elim (q.others u c (p.settled u c settled)) [
-  | inl (inl idle) ↦ inl (subst (λ s. is_idle_on H side s u c) (sym (same_source x y p.same side)) idle)
+pub marked_whole : (H : LevelsAndLegs) (ends : Ends) (side : Side) (x y : WeightSearch) (v weight : ℕ) (old marks : List ℕ)
+    (legs : List Leg) →
+    IsPartlyWeighed H ends side x y v weight legs → IsPartlyMarked H ends side x y v weight old marks legs →
+    legs ≡ row (rows_of (weighed H) side) v → AreMarked H ends side y marks
+marked_whole H ends side x y v weight old marks legs p q e u c settled = elim (q.others u c (p.settled u c settled)) [
+  | inl (inl idle) ↦ inl idle
   | inl (inr here) ↦ inr (λ l has.
       let cost : weight_cost weight ≡ c =
       same_Some _ _ (sym p.weighing.here.here.0 ∙ ap (cost_at (side_costs H side y)) (sym here) ∙ settled.0) in
@@ -238,38 +242,39 @@ marked_whole H side x y v weight old marks legs p q e u c settled = elim (q.othe
 ]
 
 -- the node v may stay idle
-pub marked_idle : (H : LevelsAndLegs) (side : Side) (x : WeightSearch) (v weight : ℕ) (marks : List ℕ) →
-    IsWeighingAt H side x v weight → AreMarkedBut H side x marks v →
-    is_idle_on H side (source_of x side) v (weight_cost weight) → AreMarked H side x marks
-marked_idle H side x v weight marks w marked idle u c settled = elim (marked u c settled) [
+pub marked_idle : (H : LevelsAndLegs) (ends : Ends) (side : Side) (x : WeightSearch) (v weight : ℕ) (marks : List ℕ) →
+    IsWeighingAt H ends side x v weight → AreMarkedBut H ends side x marks v →
+    is_idle_on H side (source_of ends side) v (weight_cost weight) → AreMarked H ends side x marks
+marked_idle H ends side x v weight marks w marked idle u c settled = elim (marked u c settled) [
   | inl (inl other_idle) ↦ inl other_idle
   | inl (inr here) ↦ inl (
       let cost : weight_cost weight ≡ c =
       same_Some _ _ (sym w.here.here.0 ∙ ap (cost_at (side_costs H side x)) (sym here) ∙ settled.0) in
-      subst (λ n. is_idle_on H side (source_of x side) n c) (sym here)
-      (subst (is_idle_on H side (source_of x side) v) cost idle))
+      subst (λ n. is_idle_on H side (source_of ends side) n c) (sym here)
+      (subst (is_idle_on H side (source_of ends side) v) cost idle))
   | inr legs ↦ inr legs
 ]
 
 -- the node v leaves the queue
-pub marked_popped : (H : LevelsAndLegs) (side : Side) (x : WeightSearch) (m : IsWeighingOn H side x) (v weight state : ℕ) →
+pub marked_popped : (H : LevelsAndLegs) (ends : Ends) (side : Side) (x : WeightSearch) (m : IsWeighingOn H ends side x)
+    (v weight state : ℕ) →
     v < nodes_of H → state ≡ state_of side (rank_of H v) → IsLeastState x.queue (weight, state) → (marks : List ℕ) →
-    AreMarked H side x marks → AreMarkedBut H side (without_state x state) marks v
-marked_popped H side x m v weight state within is l marks marked u c settled =
-    elim (pop_settled H side x m v weight state within is l u c settled) [
+    AreMarked H ends side x marks → AreMarkedBut H ends side (without_state x state) marks v
+marked_popped H ends side x m v weight state within is l marks marked u c settled =
+    elim (pop_settled H ends side x m v weight state within is l u c settled) [
       | inl was ↦ elim (marked u c was) [
-        | inl idle ↦ inl (inl (subst (λ s. is_idle_on H side s u c) (sym (source_stays x state side)) idle))
+        | inl idle ↦ inl (inl idle)
         | inr legs ↦ inr legs
       ]
       | inr new ↦ inl (inr new.0)
     ]
 
 -- a side without changes stays marked
-pub marked_stays : (H : LevelsAndLegs) (side : Side) (x z : WeightSearch) (old new : List ℕ) → IsSameSide H side x z →
-    source_of z side ≡ source_of x side → KeepsMarks side old new → AreMarked H side x old → AreMarked H side z new
-marked_stays H side x z old new same source kept marked u c settled =
+pub marked_stays : (H : LevelsAndLegs) (ends : Ends) (side : Side) (x z : WeightSearch) (old new : List ℕ) → IsSameSide H side x z →
+    KeepsMarks side old new → AreMarked H ends side x old → AreMarked H ends side z new
+marked_stays H ends side x z old new same kept marked u c settled =
     elim (marked u c (sym (ap (λ q. cost_at q u) same.costs) ∙ settled.0, sym (ap (λ q. cost_at q u) same.keys) ∙ settled.1)) [
-      | inl idle ↦ inl (subst (λ s. is_idle_on H side s u c) (sym source) idle)
+      | inl idle ↦ inl idle
       | inr legs ↦ inr (λ l has e. subst (λ q. Allows q (rank_of H u)) (sym (kept.same (rank_of H l.node)))
           (legs l has (sym (ap (λ q. cost_at q l.node) same.costs) ∙ e)))
     ]

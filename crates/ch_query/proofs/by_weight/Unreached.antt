@@ -9,6 +9,7 @@ use Rattle.ch_hierarchy.specs.declared.side.Side.{Side}
 use Rattle.ch_hierarchy.specs.Side.{state_of}
 use Rattle.ch_hierarchy.proofs.code.Ranked.{rank_below}
 use Rattle.ch_graph.specs.declared.cost.TheConstants.{UNREACHED}
+use Rattle.ch_query.specs.declared.question.Ends.{Ends}
 use Rattle.ch_query.specs.declared.weights.search.WeightSearch.{WeightSearch}
 use Rattle.ch_query.specs.Weights.{known_cost, weight_cost, IsCleanFor, IsWeighingAt, UnreachedStateIsUnkeyed}
 use Rattle.ch_query.proofs.one_side.Touched.{none_unless}
@@ -20,9 +21,10 @@ pub clean_none : (n : ℕ) (x : WeightSearch) → IsCleanFor n x → (state : �
 clean_none n x clean state = none_unless (get_or x.queue state None) (clean.queue state)
 
 -- in a search that is taking the legs of a node, an unreached state of that side has no key
-pub unreached_here : (H : LevelsAndLegs) (side : Side) (x : WeightSearch) (v weight : ℕ) → IsWeighingAt H side x v weight → (u state : ℕ) →
+pub unreached_here : (H : LevelsAndLegs) (ends : Ends) (side : Side) (x : WeightSearch) (v weight : ℕ) →
+    IsWeighingAt H ends side x v weight → (u state : ℕ) →
     u < nodes_of H → state ≡ state_of side (rank_of H u) → UnreachedStateIsUnkeyed x state
-unreached_here H side x v weight m u state within is unreached = none_unless (get_or x.queue state None) (λ w key.
+unreached_here H ends side x v weight m u state within is unreached = none_unless (get_or x.queue state None) (λ w key.
     let low = state_below side (rank_of H u) (nodes_of H) (rank_below H m.levelled u within) in
     let size = m.sizes.known in
     let queued = by_state-at (option_map weight_cost) H side x.queue None None u within

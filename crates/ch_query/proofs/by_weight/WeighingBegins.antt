@@ -1,5 +1,5 @@
 -- A search by weights at its beginning: on each side the end is reached, and no other node is.
-use Rattle.std.proofs.Common.{◌≡◌, ℕ, ◌<◌, ◌≤◌, length, map, Some, None, sym, ◌∙◌, ap, subst, arith, set, length-set}
+use Rattle.std.proofs.Common.{◌≡◌, ℕ, ◌<◌, ◌≤◌, length, map, Some, None, refl, sym, ◌∙◌, ap, subst, arith, set, length-set}
 use Rattle.std.specs.Option.{option_map}
 use Rattle.std.proofs.lemmas.Option.{none-some}
 use Rattle.ch_graph.specs.declared.cost.TheConstants.{UNREACHED}
@@ -11,7 +11,9 @@ use Rattle.ch_hierarchy.specs.Ranked.{rank_of}
 use Rattle.ch_hierarchy.specs.declared.side.Side.{Side}
 use Rattle.ch_hierarchy.specs.declared.side.Side.TheVariants.{Up, Down}
 use Rattle.ch_hierarchy.specs.Side.{rows_of, other, state_of}
+use Rattle.ch_query.specs.declared.question.Ends.{Ends}
 use Rattle.ch_query.specs.declared.weights.search.WeightSearch.{WeightSearch}
+use Rattle.ch_query.specs.Questions.{all_paths}
 use Rattle.ch_query.specs.Search.{IsSettled}
 use Rattle.ch_query.specs.Underway.{IsTouched}
 use Rattle.ch_query.specs.Weighed.{weighed, IsWeightSearchTo}
@@ -23,15 +25,10 @@ use Rattle.ch_query.proofs.one_side.WeighedPaths.{weighed_levelled}
 use Rattle.ch_query.proofs.by_weight.Clean.{clean_costs, clean_keys}
 use Rattle.ch_query.proofs.by_weight.States.{by_state-size, by_state-set, by_state-other}
 
--- if both ends are the same node, each side begins there
-pub source_where : (x : WeightSearch) (side : Side) (s : ℕ) → x.start ≡ s → x.end ≡ s → source_of x side ≡ s
-source_where x Up s start end = start
-source_where x Down s start end = end
-
 -- x is clean, and z is x with one node of a side reached
-module _ (H : LevelsAndLegs) (k : IsLevelled H) (x z : WeightSearch) (clean : IsCleanFor (nodes_of H) x) (side : Side) (s : ℕ)
-    (within : s < nodes_of H) (source : source_of z side ≡ s)
-    (most : z.most ≤ MOST_WEIGHT) (sizes : IsSizedFor (nodes_of H) z)
+module _ (H : LevelsAndLegs) (k : IsLevelled H) (x z : WeightSearch) (clean : IsCleanFor (nodes_of H) x) (ends : Ends) (side : Side) (s : ℕ)
+    (within : s < nodes_of H) (source : source_of ends side ≡ s)
+    (most : ends.most ≤ MOST_WEIGHT) (sizes : IsSizedFor (nodes_of H) z)
     (costs : side_costs H side z ≡ set (side_costs H side x) s (Some no_cost))
     (keys : side_keys H side z ≡ set (side_keys H side x) s (Some no_cost)) where
   -- there are as many rows as nodes
@@ -48,29 +45,30 @@ module _ (H : LevelsAndLegs) (k : IsLevelled H) (x z : WeightSearch) (clean : Is
   in_rows = (let size = rows_many in omega arith)
 
   -- the side has begun
-  pub side_begun : IsWeighingOn H side z
+  pub side_begun : IsWeighingOn H ends side z
   side_begun = record {
     levelled = k;
     sizes = sizes;
-    search = subst (λ q. IsWeightSearchTo z.most H side q (side_costs H side z) (side_keys H side z)) (sym source)
-        (subst (λ q. IsWeightSearchTo z.most H side s (side_costs H side z) q) (sym keys)
-        (subst (λ q. IsWeightSearchTo z.most H side s q (set (side_keys H side x) s (Some no_cost))) (sym costs)
-        (begun_search z.most (rows_of (weighed H) side) s (is_idle_on H side s) (side_costs H side x) (side_keys H side x) most
+    search = subst (λ q. IsWeightSearchTo ends.most H side q (side_costs H side z) (side_keys H side z)) (sym source)
+        (subst (λ q. IsWeightSearchTo ends.most H side s (side_costs H side z) q) (sym keys)
+        (subst (λ q. IsWeightSearchTo ends.most H side s q (set (side_keys H side x) s (Some no_cost))) (sym costs)
+        (begun_search ends.most (rows_of (weighed H) side) s (is_idle_on H side s) (side_costs H side x) (side_keys H side x) most
         costs_many keys_many in_rows (clean_costs H side x clean k) (clean_keys H side x clean))));
   }
 
   -- no node is settled
   pub side_fresh : (v : ℕ) (c : Cost) → IsSettled (side_costs H side z) (side_keys H side z) v c → ⊥
   side_fresh v c settled =
-      begun_fresh z.most (rows_of (weighed H) side) s (is_idle_on H side s) (side_costs H side x) (side_keys H side x) most
+      begun_fresh ends.most (rows_of (weighed H) side) s (is_idle_on H side s) (side_costs H side x) (side_keys H side x) most
       costs_many keys_many in_rows (clean_costs H side x clean k) (clean_keys H side x clean) v c
       (subst (λ q. IsSettled (set (side_costs H side x) s (Some no_cost)) q v c) keys
       (subst (λ q. IsSettled q (side_keys H side z) v c) costs settled))
 
 -- x is clean, and z is x with the state of one node reached
-module _ (H : LevelsAndLegs) (k : IsLevelled H) (x z : WeightSearch) (clean : IsCleanFor (nodes_of H) x) (side : Side) (s state : ℕ)
+module _ (H : LevelsAndLegs) (k : IsLevelled H) (x z : WeightSearch) (clean : IsCleanFor (nodes_of H) x) (ends : Ends) (side : Side)
+    (s state : ℕ)
     (within : s < nodes_of H) (is : state ≡ state_of side (rank_of H s))
-    (source : source_of z side ≡ s) (most : z.most ≤ MOST_WEIGHT) (known : z.known.items ≡ set x.known.items state 0)
+    (source : source_of ends side ≡ s) (most : ends.most ≤ MOST_WEIGHT) (known : z.known.items ≡ set x.known.items state 0)
     (queue : z.queue ≡ set x.queue state (Some 0))
     (touched : IsTouched (map known_cost z.known.items) z.touched) where
   costs_on : side_costs H side z ≡ set (side_costs H side x) s (Some no_cost)
@@ -97,39 +95,30 @@ module _ (H : LevelsAndLegs) (k : IsLevelled H) (x z : WeightSearch) (clean : Is
   }
 
   -- the search has begun on that side alone
-  pub begun_alone : HasBegunOn H side z
+  pub begun_alone : HasBegunOn H ends side z
   begun_alone = record {
-    weighing = side_begun H k x z clean side s within source most sizes_on costs_on keys_on;
+    weighing = side_begun H k x z clean ends side s within source most sizes_on costs_on keys_on;
     alone = λ v c key. none-some c (sym (ap (λ q. cost_at q v) keys_other ∙ clean_keys H (other side) x clean v) ∙ key);
-    fresh = side_fresh H k x z clean side s within source most sizes_on costs_on keys_on;
+    fresh = side_fresh H k x z clean ends side s within source most sizes_on costs_on keys_on;
   }
 
 -- x is clean, and z is x with both ends reached
 module _ (H : LevelsAndLegs) (k : IsLevelled H) (x z : WeightSearch) (s t : ℕ) (clean : IsCleanFor (nodes_of H) x)
-    (from : s < nodes_of H) (to : t < nodes_of H) (start : z.start ≡ s) (end : z.end ≡ t) (most : z.most ≡ MOST_WEIGHT)
+    (from : s < nodes_of H) (to : t < nodes_of H)
     (known : z.known.items ≡ set (set x.known.items (state_of Up (rank_of H s)) 0) (state_of Down (rank_of H t)) 0)
     (queue : z.queue ≡ set (set x.queue (state_of Up (rank_of H s)) (Some 0)) (state_of Down (rank_of H t)) (Some 0))
     (touched : IsTouched (map known_cost z.known.items) z.touched) where
   -- the node where a side begins
-  end_of : Side → ℕ
-  end_of Up = s
-  end_of Down = t
+  abbrev end_of : Side → ℕ
+  end_of = source_of (all_paths s t)
 
   -- this node is a node of the hierarchy
   end_within : (side : Side) → end_of side < nodes_of H
-  unfolding end_of
   end_within Up = from
   end_within Down = to
 
-  -- this node is the source of its side
-  source_is : (side : Side) → source_of z side ≡ end_of side
-  unfolding end_of
-  source_is Up = start
-  source_is Down = end
-
   -- on each side only this node gets a cost
   costs_then : (side : Side) → side_costs H side z ≡ set (side_costs H side x) (end_of side) (Some no_cost)
-  unfolding end_of
   costs_then Up =
       ap (λ q. by_state known_cost H Up q UNREACHED) known
       ∙ by_state-other known_cost H Down (set x.known.items (state_of Up (rank_of H s)) 0) UNREACHED 0 (rank_of H t)
@@ -142,7 +131,6 @@ module _ (H : LevelsAndLegs) (k : IsLevelled H) (x z : WeightSearch) (s t : ℕ)
 
   -- on each side only this node gets a key
   keys_then : (side : Side) → side_keys H side z ≡ set (side_keys H side x) (end_of side) (Some no_cost)
-  unfolding end_of
   keys_then Up =
       ap (λ q. by_state (option_map weight_cost) H Up q None) queue
       ∙ by_state-other (option_map weight_cost) H Down (set x.queue (state_of Up (rank_of H s)) (Some 0)) None (Some 0) (rank_of H t)
@@ -163,26 +151,23 @@ module _ (H : LevelsAndLegs) (k : IsLevelled H) (x z : WeightSearch) (s t : ℕ)
     touched = touched;
   }
 
-  -- the search has the limit of all paths
-  small : z.most ≤ MOST_WEIGHT
-  small = omega arith
-
   -- each side has begun
-  both_begun : (side : Side) → IsWeighingOn H side z
+  both_begun : (side : Side) → IsWeighingOn H (all_paths s t) side z
   both_begun side =
-      side_begun H k x z clean side (end_of side) (end_within side) (source_is side) small sizes (costs_then side) (keys_then side)
-
-  -- no sum is known yet
-  pub weighing_begun : IsLeastSoFar H z UNREACHED
-  weighing_begun = record {
-    weighing = record { most = most; sides = both_begun };
-    small = omega arith;
-    seen = λ v a b up down.
-        absurd (side_fresh H k x z clean Up (end_of Up) (end_within Up) (source_is Up) small sizes (costs_then Up) (keys_then Up) v a up);
-    found = λ lt. absurd (omega arith);
-  }
+      side_begun H k x z clean (all_paths s t) side (end_of side) (end_within side) refl (omega arith) sizes (costs_then side)
+      (keys_then side)
 
   -- no state is settled yet
   pub weighing_fresh : IsUnsettled H z
   weighing_fresh side =
-      side_fresh H k x z clean side (end_of side) (end_within side) (source_is side) small sizes (costs_then side) (keys_then side)
+      side_fresh H k x z clean (all_paths s t) side (end_of side) (end_within side) refl (omega arith) sizes (costs_then side)
+      (keys_then side)
+
+  -- no sum is known yet
+  pub weighing_begun : IsLeastSoFar H (all_paths s t) z UNREACHED
+  weighing_begun = record {
+    weighing = record { most = refl; sides = both_begun };
+    small = omega arith;
+    seen = λ v a b up down. absurd (weighing_fresh Up v a up);
+    found = λ lt. absurd (omega arith);
+  }

@@ -1,5 +1,5 @@
 -- At the end of a search by weights the least sum is the least weight.
-use Rattle.std.proofs.Common.{◌≡◌, ℕ, ◌<◌, ◌≤◌, Option, Some, None, refl, ap, subst, arith}
+use Rattle.std.proofs.Common.{◌≡◌, ℕ, ◌<◌, ◌≤◌, Some, None, refl, ap, subst, arith}
 use Rattle.std.specs.Option.{option_map}
 use Rattle.std.proofs.lemmas.Option.{same_Some, none-some}
 use Rattle.ch_graph.specs.declared.cost.Cost.{Cost}
@@ -10,6 +10,7 @@ use Rattle.ch_hierarchy.specs.declared.side.Side.{Side}
 use Rattle.ch_hierarchy.specs.declared.side.Side.TheVariants.{Up, Down}
 use Rattle.ch_hierarchy.specs.Side.{state_of}
 use Rattle.ch_graph.specs.declared.cost.TheConstants.{UNREACHED}
+use Rattle.ch_query.specs.declared.question.Ends.{Ends}
 use Rattle.ch_query.specs.declared.weights.search.WeightSearch.{WeightSearch}
 use Rattle.ch_query.specs.Distance.{IsKeptForSome, IsLeastWeight}
 use Rattle.ch_query.specs.Weighed.{IsWeightSearchTo, IsWeightSearch, IsWeightSeen, IsWeightFound, IsPastWeight}
@@ -17,11 +18,11 @@ use Rattle.ch_query.specs.Weights.{weight_cost, side_costs, side_keys, source_of
 use Rattle.ch_query.proofs.two_sides.WeighedSearches.{weighed_least}
 use Rattle.ch_query.proofs.by_weight.States.{by_state-some, key_weight}
 
-module _ (H : LevelsAndLegs) (k : IsKeptForSome H) (x : WeightSearch) (least : ℕ) (s : IsLeastSoFar H x least)
+module _ (H : LevelsAndLegs) (k : IsKeptForSome H) (ends : Ends) (x : WeightSearch) (least : ℕ) (s : IsLeastSoFar H ends x least)
     (past : AreKeysFrom x.queue least) where
   -- each side is a search of all paths
-  pub all_paths : (side : Side) → IsWeightSearch H side (source_of x side) (side_costs H side x) (side_keys H side x)
-  all_paths side = subst (λ m. IsWeightSearchTo m H side (source_of x side) (side_costs H side x) (side_keys H side x))
+  pub all_paths : (side : Side) → IsWeightSearch H side (source_of ends side) (side_costs H side x) (side_keys H side x)
+  all_paths side = subst (λ m. IsWeightSearchTo m H side (source_of ends side) (side_costs H side x) (side_keys H side x))
       s.weighing.most (s.weighing.sides side).search
 
   -- each remaining key is at least the least sum
@@ -38,7 +39,7 @@ module _ (H : LevelsAndLegs) (k : IsKeptForSome H) (x : WeightSearch) (least : �
     seen : IsWeightSeen (side_costs H Up x) (side_keys H Up x) (side_costs H Down x) (side_keys H Down x) (Some least)
     seen v a b up down = (least, refl, s.seen v a b up down)
 
-    found : IsWeightFound H x.start x.end (Some least)
+    found : IsWeightFound H ends.start ends.end (Some least)
     found e is =
         let same : least ≡ e = same_Some _ _ is in
         let f = s.found known in
@@ -48,8 +49,8 @@ module _ (H : LevelsAndLegs) (k : IsKeptForSome H) (x : WeightSearch) (least : �
     past_by side v d e = (least, refl, key_from side v d e)
 
     -- the sum is the least weight
-    pub least_known : IsLeastWeight H x.start x.end (Some least)
-    least_known = weighed_least H k x.start x.end (Some least) _ _ _ _ (all_paths Up) (all_paths Down) seen found (past_by Up)
+    pub least_known : IsLeastWeight H ends.start ends.end (Some least)
+    least_known = weighed_least H k ends.start ends.end (Some least) _ _ _ _ (all_paths Up) (all_paths Down) seen found (past_by Up)
         (past_by Down)
 
   -- the case where there is no sum
@@ -68,10 +69,6 @@ module _ (H : LevelsAndLegs) (k : IsKeptForSome H) (x : WeightSearch) (least : �
         absurd (omega arith)
 
     -- no node is reached from both ends
-    pub none_known : IsLeastWeight H x.start x.end None
-    none_known = weighed_least H k x.start x.end None _ _ _ _ (all_paths Up) (all_paths Down) not_seen
+    pub none_known : IsLeastWeight H ends.start ends.end None
+    none_known = weighed_least H k ends.start ends.end None _ _ _ _ (all_paths Up) (all_paths Down) not_seen
         (λ e is. absurd (none-some e is)) (not_past Up) (not_past Down)
-
--- the same for the nodes where the search began
-pub least_between : (H : LevelsAndLegs) (s t s' t' : ℕ) (o : Option ℕ) → s' ≡ s → t' ≡ t → IsLeastWeight H s' t' o → IsLeastWeight H s t o
-least_between H s t s' t' o from to least = subst (λ q. IsLeastWeight H s q o) to (subst (λ q. IsLeastWeight H q t' o) from least)

@@ -11,8 +11,8 @@ use Rattle.ch_graph.specs.Cost.{IsAtMost}
 use Rattle.ch_hierarchy.specs.Hierarchy.{LevelsAndLegs, nodes_of}
 use Rattle.ch_hierarchy.specs.Ranked.{rank_of}
 use Rattle.ch_hierarchy.specs.declared.side.Side.{Side}
-use Rattle.ch_hierarchy.specs.declared.side.Side.TheVariants.{Up, Down}
 use Rattle.ch_hierarchy.specs.Side.{rows_of, other, state_of}
+use Rattle.ch_query.specs.declared.question.Ends.{Ends}
 use Rattle.ch_query.specs.declared.weights.search.WeightSearch.{WeightSearch}
 use Rattle.ch_query.specs.Search.{IsSettled, IsLeastKey, IsExpanding, OrNode, count_unsettled}
 use Rattle.ch_query.specs.Weighed.{weighed}
@@ -26,13 +26,8 @@ pub key_state : (queue : List (Option ℕ)) (state weight : ℕ) → slice_index
 key_state queue state weight e =
     elim (cases_lt state (length queue)) [ inl lt ↦ lt | inr ge ↦ absurd (none-some weight (sym (get_or_past queue state None ge) ∙ e)) ]
 
--- each side keeps its source
-pub source_stays : (x : WeightSearch) (state : ℕ) (side : Side) → source_of (without_state x state) side ≡ source_of x side
-source_stays x state Up = refl
-source_stays x state Down = refl
-
 -- the state of least weight is that of the node v on this side
-module _ (H : LevelsAndLegs) (side : Side) (x : WeightSearch) (m : IsWeighingOn H side x) (v weight state : ℕ)
+module _ (H : LevelsAndLegs) (ends : Ends) (side : Side) (x : WeightSearch) (m : IsWeighingOn H ends side x) (v weight state : ℕ)
     (within : v < nodes_of H) (is : state ≡ state_of side (rank_of H v)) (l : IsLeastState x.queue (weight, state)) where
   -- v has the least key of its side
   pub least_on_side : IsLeastKey (side_keys H side x) v (weight_cost weight)
@@ -63,17 +58,14 @@ module _ (H : LevelsAndLegs) (side : Side) (x : WeightSearch) (m : IsWeighingOn 
   in_keys = (let size = by_state-size (option_map weight_cost) H side x.queue None in omega arith)
 
   -- the legs of v are taken next
-  pub pop_weighs : IsWeighingAt H side (without_state x state) v weight
+  pub pop_weighs : IsWeighingAt H ends side (without_state x state) v weight
   pop_weighs = record {
     levelled = m.levelled;
     sizes = record { known = m.sizes.known; queue = length-set x.queue state None ∙ m.sizes.queue; touched = m.sizes.touched };
     within = within;
-    here = subst (λ s. IsExpanding x.most (rows_of (weighed H) side) s (OrNode (is_idle_on H side s) v) (side_costs H side x)
-        (side_keys H side (without_state x state)) v (weight_cost weight))
-        (sym (source_stays x state side))
-        (subst (λ q. IsExpanding x.most (rows_of (weighed H) side) (source_of x side)
-        (OrNode (is_idle_on H side (source_of x side)) v) (side_costs H side x) q v (weight_cost weight))
-        (sym keys_here) (popped _ _ _ _ _ m.search v (weight_cost weight) least_on_side.has least_on_side.least in_keys));
+    here = subst (λ q. IsExpanding ends.most (rows_of (weighed H) side) (source_of ends side)
+        (OrNode (is_idle_on H side (source_of ends side)) v) (side_costs H side x) q v (weight_cost weight))
+        (sym keys_here) (popped _ _ _ _ _ m.search v (weight_cost weight) least_on_side.has least_on_side.least in_keys);
   }
 
   -- the other side stays the same

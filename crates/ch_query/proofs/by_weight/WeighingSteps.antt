@@ -14,14 +14,14 @@ use Rattle.ch_hierarchy.specs.Rows.{row}
 use Rattle.ch_hierarchy.specs.Hierarchy.{LevelsAndLegs, nodes_of}
 use Rattle.ch_hierarchy.specs.Ranked.{rank_of}
 use Rattle.ch_hierarchy.specs.declared.side.Side.{Side}
-use Rattle.ch_hierarchy.specs.declared.side.Side.TheVariants.{Up, Down}
 use Rattle.ch_hierarchy.specs.Side.{rows_of, other, state_of}
+use Rattle.ch_query.specs.declared.question.Ends.{Ends}
 use Rattle.ch_query.specs.declared.weights.search.WeightSearch.{WeightSearch}
 use Rattle.ch_query.specs.Search.{IsSettled, IsRelaxedFrom, IsExpanding, OrNode, count_unsettled, WouldLower}
 use Rattle.ch_query.specs.Underway.{IsTouched}
 use Rattle.ch_query.specs.Weighed.{weighed, weighed_leg, IsWeightSearchTo}
 use Rattle.ch_query.specs.Weights.{known_cost, weight_cost, by_state, side_costs, side_keys, source_of, is_idle_on, IsSizedFor}
-use Rattle.ch_query.specs.Weights.{IsWeighingOn, IsSameWeighing, IsSameSide, HasGoneOn, count_unsettled_on, ShowsWeight}
+use Rattle.ch_query.specs.Weights.{IsWeighingOn, IsSameSide, HasGoneOn, count_unsettled_on, ShowsWeight}
 use Rattle.ch_query.specs.Weights.{IsWeighingAt, IsPartlyWeighed}
 use Rattle.ch_query.proofs.one_side.Steps.{lowered, lowered_settled, lowered_stays, lowered_keeps, lowered_relaxes, lowered_counts}
 use Rattle.ch_query.proofs.one_side.Steps.{expanded}
@@ -29,25 +29,14 @@ use Rattle.ch_query.proofs.by_weight.Known.{light_cost, known_weight}
 use Rattle.ch_query.proofs.by_weight.LegsRead.{IsReadLeg, read_state}
 use Rattle.ch_query.proofs.by_weight.States.{by_state-size, by_state-at, by_state-set, by_state-other}
 
--- two searches with the same ends have the same source on each side
-pub same_source : (x y : WeightSearch) → IsSameWeighing x y → (side : Side) → source_of y side ≡ source_of x side
-same_source x y same Up = same.start
-same_source x y same Down = same.end
-
--- having the same source, target and limit is transitive
-pub same_then : (x y z : WeightSearch) → IsSameWeighing x y → IsSameWeighing y z → IsSameWeighing x z
-same_then x y z first second = record { start = second.start ∙ first.start; end = second.end ∙ first.end; most = second.most ∙ first.most }
-
 -- a side without changes is still a search
-pub side_stays : (H : LevelsAndLegs) (side : Side) (x y : WeightSearch) → IsWeighingOn H side x → IsSameWeighing x y →
-    IsSameSide H side x y → IsSizedFor (nodes_of H) y → IsWeighingOn H side y
-side_stays H side x y m same stays sizes = record {
+pub side_stays : (H : LevelsAndLegs) (ends : Ends) (side : Side) (x y : WeightSearch) → IsWeighingOn H ends side x →
+    IsSameSide H side x y → IsSizedFor (nodes_of H) y → IsWeighingOn H ends side y
+side_stays H ends side x y m stays sizes = record {
   levelled = m.levelled;
   sizes = sizes;
-  search = subst (λ q. IsWeightSearchTo q H side (source_of y side) (side_costs H side y) (side_keys H side y)) (sym same.most)
-      (subst (λ s. IsWeightSearchTo x.most H side s (side_costs H side y) (side_keys H side y)) (sym (same_source x y same side))
-      (subst (λ q. IsWeightSearchTo x.most H side (source_of x side) q (side_keys H side y)) (sym stays.costs)
-      (subst (λ q. IsWeightSearchTo x.most H side (source_of x side) (side_costs H side x) q) (sym stays.keys) m.search)));
+  search = subst (λ q. IsWeightSearchTo ends.most H side (source_of ends side) q (side_keys H side y)) (sym stays.costs)
+      (subst (IsWeightSearchTo ends.most H side (source_of ends side) (side_costs H side x)) (sym stays.keys) m.search);
 }
 
 -- the conditions on the costs and keys of a side that is taking the legs of v
@@ -56,31 +45,26 @@ ExpandingOn most H side s best queue v weight =
     IsExpanding most (rows_of (weighed H) side) s (OrNode (is_idle_on H side s) v) best queue v (weight_cost weight)
 
 -- a leg is offered to this side
-module _ (H : LevelsAndLegs) (side : Side) (x y z : WeightSearch) (v weight : ℕ) (legs : List Leg)
-    (p : IsPartlyWeighed H side x y v weight legs) (l : Leg)
-    (touched : IsTouched (map known_cost z.known.items) z.touched) (same : IsSameWeighing y z) where
+module _ (H : LevelsAndLegs) (ends : Ends) (side : Side) (x y z : WeightSearch) (v weight : ℕ) (legs : List Leg)
+    (p : IsPartlyWeighed H ends side x y v weight legs) (l : Leg)
+    (touched : IsTouched (map known_cost z.known.items) z.touched) where
   -- one more leg is taken, where the other side stays the same
   partly_by : (best queue : List (Option Cost)) → side_costs H side z ≡ best → side_keys H side z ≡ queue → IsSameSide H (other side) y z →
       (length z.known.items ≡ length y.known.items) × (length z.queue ≡ length y.queue) →
-      ExpandingOn y.most H side (source_of y side) best queue v weight →
-      ((k : Leg) → Contains (legs ++ l ∷ []) k → IsRelaxedFrom y.most best (weight_cost weight) k) →
+      ExpandingOn ends.most H side (source_of ends side) best queue v weight →
+      ((k : Leg) → Contains (legs ++ l ∷ []) k → IsRelaxedFrom ends.most best (weight_cost weight) k) →
       ((w : ℕ) (c : Cost) → IsSettled best queue w c → IsSettled (side_costs H side y) (side_keys H side y) w c) →
       ((w : ℕ) (c : Cost) → IsSettled (side_costs H side y) (side_keys H side y) w c → IsSettled best queue w c) →
-      count_unsettled best queue ≡ count_unsettled_on H side y → IsPartlyWeighed H side x z v weight (legs ++ l ∷ [])
+      count_unsettled best queue ≡ count_unsettled_on H side y → IsPartlyWeighed H ends side x z v weight (legs ++ l ∷ [])
   partly_by best queue e f there sizes expanding relaxed settled stays counts = record {
-    same = same_then x y z p.same same;
     weighing = record {
       levelled = p.weighing.levelled;
       sizes = record { known = sizes.0 ∙ p.weighing.sizes.known; queue = sizes.1 ∙ p.weighing.sizes.queue; touched = touched };
       within = p.weighing.within;
-      here = subst (λ m. ExpandingOn m H side (source_of z side) (side_costs H side z) (side_keys H side z) v weight) (sym same.most)
-          (subst (λ s. ExpandingOn y.most H side s (side_costs H side z) (side_keys H side z) v weight) (sym (same_source y z same side))
-          (subst (λ q. ExpandingOn y.most H side (source_of y side) q (side_keys H side z) v weight) (sym e)
-          (subst (λ q. ExpandingOn y.most H side (source_of y side) best q v weight) (sym f) expanding)));
+      here = subst (λ q. ExpandingOn ends.most H side (source_of ends side) q (side_keys H side z) v weight) (sym e)
+          (subst (λ q. ExpandingOn ends.most H side (source_of ends side) best q v weight) (sym f) expanding);
     };
-    relaxed = subst (λ m. (k : Leg) → Contains (legs ++ l ∷ []) k → IsRelaxedFrom m (side_costs H side z) (weight_cost weight) k)
-        (sym same.most)
-        (subst (λ q. (k : Leg) → Contains (legs ++ l ∷ []) k → IsRelaxedFrom y.most q (weight_cost weight) k) (sym e) relaxed);
+    relaxed = subst (λ q. (k : Leg) → Contains (legs ++ l ∷ []) k → IsRelaxedFrom ends.most q (weight_cost weight) k) (sym e) relaxed;
     there = record { costs = there.costs ∙ p.there.costs; keys = there.keys ∙ p.there.keys };
     settled = λ w c k. p.settled w c (settled w c (sym (ap (λ q. cost_at q w) e) ∙ k.0, sym (ap (λ q. cost_at q w) f) ∙ k.1));
     stays = λ w c k. let now = stays w c (p.stays w c k) in (ap (λ q. cost_at q w) e ∙ now.0, ap (λ q. cost_at q w) f ∙ now.1);
@@ -88,8 +72,9 @@ module _ (H : LevelsAndLegs) (side : Side) (x y z : WeightSearch) (v weight : �
   }
 
   -- the case where the leg shows no lower weight
-  partly_same : (z.known.items ≡ y.known.items) → (z.queue ≡ y.queue) → IsRelaxedFrom y.most (side_costs H side y) (weight_cost weight) l →
-      IsPartlyWeighed H side x z v weight (legs ++ l ∷ [])
+  partly_same : (z.known.items ≡ y.known.items) → (z.queue ≡ y.queue) → IsRelaxedFrom ends.most (side_costs H side y) (weight_cost weight)
+      l →
+      IsPartlyWeighed H ends side x z v weight (legs ++ l ∷ [])
   partly_same e f relaxed = partly_by (side_costs H side y) (side_keys H side y)
       (ap (λ q. by_state known_cost H side q UNREACHED) e) (ap (λ q. by_state (option_map weight_cost) H side q None) f)
       (record {
@@ -101,22 +86,22 @@ module _ (H : LevelsAndLegs) (side : Side) (x y z : WeightSearch) (v weight : �
       (λ k of. elim (Contains-push_cases legs l k of) [
         | inl old ↦ p.relaxed k old
         | inr is ↦
-            subst (IsRelaxedFrom y.most (side_costs H side y) (weight_cost weight)) is relaxed
+            subst (IsRelaxedFrom ends.most (side_costs H side y) (weight_cost weight)) is relaxed
       ])
       (λ w c k. k) (λ w c k. k) refl
 
   -- the case where the leg shows a lower weight
   partly_less : (has : Contains (row (rows_of (weighed H) side) v) l) (within : l.node < nodes_of H) (sum : ℕ) →
       cost_sum (weight_cost weight) l.cost ≡ weight_cost sum →
-      sum ≤ y.most → WouldLower (side_costs H side y) l.node (cost_sum (weight_cost weight) l.cost) →
+      sum ≤ ends.most → WouldLower (side_costs H side y) l.node (cost_sum (weight_cost weight) l.cost) →
       (z.known.items ≡ set y.known.items (state_of side (rank_of H l.node)) sum) →
       (z.queue ≡ set y.queue (state_of side (rank_of H l.node)) (Some sum)) →
-      IsPartlyWeighed H side x z v weight (legs ++ l ∷ [])
+      IsPartlyWeighed H ends side x z v weight (legs ++ l ∷ [])
   partly_less has within sum is fits lower e f =
       let k = p.weighing.levelled in
       let s = p.weighing.here in
       let weight_is = ap (λ (c : Cost). c.weight) is in
-      let low : weight + l.cost.weight ≤ y.most = omega arith in
+      let low : weight + l.cost.weight ≤ ends.most = omega arith in
       let light : sum ≤ MOST_WEIGHT = (let most = s.search.limits in omega arith) in
       let best = set (side_costs H side y) l.node (Some (cost_sum (weight_cost weight) l.cost)) in
       let queue = set (side_keys H side y) l.node (Some (cost_sum (weight_cost weight) l.cost)) in
@@ -140,7 +125,7 @@ module _ (H : LevelsAndLegs) (side : Side) (x y z : WeightSearch) (v weight : �
       (lowered _ _ _ _ _ v (weight_cost weight) s l has low lower)
       (λ m of. elim (Contains-push_cases legs l m of) [
         | inl old ↦ lowered_keeps _ _ _ _ _ v (weight_cost weight) s l has low lower (weight_cost weight) m (p.relaxed m old)
-        | inr is_last ↦ subst (IsRelaxedFrom y.most best (weight_cost weight)) is_last
+        | inr is_last ↦ subst (IsRelaxedFrom ends.most best (weight_cost weight)) is_last
             (lowered_relaxes _ _ _ _ _ v (weight_cost weight) s l has low lower)
       ])
       (lowered_settled _ _ _ _ _ v (weight_cost weight) s l has low lower)
@@ -148,10 +133,9 @@ module _ (H : LevelsAndLegs) (side : Side) (x y z : WeightSearch) (v weight : �
       (lowered_counts _ _ _ _ _ v (weight_cost weight) s l has low lower)
 
 -- before the first leg the search is the same
-pub partly_none : (H : LevelsAndLegs) (side : Side) (x : WeightSearch) (v weight : ℕ) → IsWeighingAt H side x v weight →
-    IsPartlyWeighed H side x x v weight []
-partly_none H side x v weight w = record {
-  same = record { start = refl; end = refl; most = refl };
+pub partly_none : (H : LevelsAndLegs) (ends : Ends) (side : Side) (x : WeightSearch) (v weight : ℕ) → IsWeighingAt H ends side x v weight →
+    IsPartlyWeighed H ends side x x v weight []
+partly_none H ends side x v weight w = record {
   weighing = w;
   relaxed = λ l has. absurd (let lt = has.1 in omega arith);
   there = record { costs = refl; keys = refl };
@@ -161,12 +145,13 @@ partly_none H side x v weight w = record {
 }
 
 -- the leg at place i is taken
-pub partly_more : (H : LevelsAndLegs) (side : Side) (x y z : WeightSearch) (v weight i : ℕ) (r : RankedLeg) (l : Leg) (state : ℕ) →
-    IsPartlyWeighed H side x y v weight (take i (row (rows_of (weighed H) side) v)) → IsReadLeg H side v i r l →
+pub partly_more : (H : LevelsAndLegs) (ends : Ends) (side : Side) (x y z : WeightSearch) (v weight i : ℕ) (r : RankedLeg) (l : Leg)
+    (state : ℕ) →
+    IsPartlyWeighed H ends side x y v weight (take i (row (rows_of (weighed H) side) v)) → IsReadLeg H side v i r l →
     state ≡ state_of side r.rank →
-    ShowsWeight y state (weight + r.weight) z → IsTouched (map known_cost z.known.items) z.touched → IsSameWeighing y z →
-    IsPartlyWeighed H side x z v weight (take (i + 1) (row (rows_of (weighed H) side) v))
-partly_more H side x y z v weight i r l state p is at shows touched same =
+    ShowsWeight ends.most y state (weight + r.weight) z → IsTouched (map known_cost z.known.items) z.touched →
+    IsPartlyWeighed H ends side x z v weight (take (i + 1) (row (rows_of (weighed H) side) v))
+partly_more H ends side x y z v weight i r l state p is at shows touched =
     let legs = take i (row (rows_of (weighed H) side) v) in
     let known = y.known.items in
     let there = read_state H p.weighing.levelled side side v i r l is state at in
@@ -179,13 +164,13 @@ partly_more H side x y z v weight i r l state p is at shows touched same =
     ∙ ap known_cost (get_or_default known state UNREACHED 0 within) in
     let nodes = by_state-size known_cost H side known UNREACHED in
     let node = is.node in
-    subst (IsPartlyWeighed H side x z v weight) (sym is.more) (elim shows [
-      | inl (e, f, most) ↦ partly_same H side x y z v weight legs p (weighed_leg l) touched same e f (λ low.
+    subst (IsPartlyWeighed H ends side x z v weight) (sym is.more) (elim shows [
+      | inl (e, f, most) ↦ partly_same H ends side x y z v weight legs p (weighed_leg l) touched e f (λ low.
           let most' = most (omega arith) in
           (weight_cost (get_or known state 0), stands ∙ light_cost (get_or known state 0) (omega arith), (omega arith, λ _. omega arith)))
       | inr (light, less, e, f) ↦
           let sum : weight + r.weight ≡ weight + l.cost.weight = omega arith in
-          partly_less H side x y z v weight legs p (weighed_leg l) touched same is.has is.node (weight + r.weight)
+          partly_less H ends side x y z v weight legs p (weighed_leg l) touched is.has is.node (weight + r.weight)
           (ap weight_cost (sym sum)) light
           (record {
             within = omega arith;
@@ -197,16 +182,15 @@ partly_more H side x y z v weight i r l state p is at shows touched same =
     ])
 
 -- all legs are taken
-pub partly_whole : (H : LevelsAndLegs) (side : Side) (x y : WeightSearch) (v weight : ℕ) (legs : List Leg) →
-    IsPartlyWeighed H side x y v weight legs →
-    legs ≡ row (rows_of (weighed H) side) v → HasGoneOn H side x y
-partly_whole H side x y v weight legs p e = record {
+pub partly_whole : (H : LevelsAndLegs) (ends : Ends) (side : Side) (x y : WeightSearch) (v weight : ℕ) (legs : List Leg) →
+    IsPartlyWeighed H ends side x y v weight legs →
+    legs ≡ row (rows_of (weighed H) side) v → HasGoneOn H ends side x y
+partly_whole H ends side x y v weight legs p e = record {
   weighing = record {
     levelled = p.weighing.levelled;
     sizes = p.weighing.sizes;
     search = expanded _ _ _ _ _ v (weight_cost weight) p.weighing.here (λ l of. p.relaxed l (subst (λ q. Contains q l) (sym e) of));
   };
-  same = p.same;
   there = p.there;
   settled = p.settled;
   stays = p.stays;

@@ -12,11 +12,12 @@ use Rattle.ch_hierarchy.specs.declared.side.Side.TheVariants.{Up, Down}
 use Rattle.ch_hierarchy.specs.Side.{rows_of, other, state_of}
 use Rattle.ch_hierarchy.proofs.code.Ranked.{rank_below}
 use Rattle.ch_graph.specs.declared.cost.TheConstants.{UNREACHED}
+use Rattle.ch_query.specs.declared.question.Ends.{Ends}
 use Rattle.ch_query.specs.declared.weights.search.WeightSearch.{WeightSearch}
 use Rattle.ch_query.specs.Search.{IsSettled, IsUpwardCost, count_unsettled}
 use Rattle.ch_query.specs.Weighed.{weighed}
 use Rattle.ch_query.specs.Weights.{known_cost, weight_cost, side_costs, side_keys, source_of, IsWeighingOn, IsWeighing}
-use Rattle.ch_query.specs.Weights.{IsSameWeighing, IsSameSide, HasGoneOn, IsLeastState, IsLeastSoFar, count_unsettled_on}
+use Rattle.ch_query.specs.Weights.{IsSameSide, HasGoneOn, IsLeastState, IsLeastSoFar, count_unsettled_on}
 use Rattle.ch_query.specs.Weights.{count_unsettled_states, without_state}
 use Rattle.ch_query.proofs.by_weight.Known.{reached_cost, known_weight}
 use Rattle.ch_query.proofs.by_weight.States.{by_state-at, state_below}
@@ -24,19 +25,20 @@ use Rattle.ch_query.proofs.by_weight.WeighingPops.{least_on_side, pop_settled, p
 use Rattle.ch_query.proofs.by_weight.WeighingSteps.{side_stays}
 
 -- the weight read at the state of a node, after another state lost its key
-pub read_there : (H : LevelsAndLegs) (x y : WeightSearch) → IsWeighing H x → (state : ℕ) → y ≡ without_state x state →
+pub read_there : (H : LevelsAndLegs) (ends : Ends) (x y : WeightSearch) → IsWeighing H ends x → (state : ℕ) → y ≡ without_state x state →
     (side : Side) (v at : ℕ) → v < nodes_of H → at ≡ state_of side (rank_of H v) →
     (there : ℕ) → there ≡ get_or y.known.items at there → there ≡ get_or x.known.items (state_of side (rank_of H v)) UNREACHED
-read_there H x y m state is side v at within e there read =
+read_there H ends x y m state is side v at within e there read =
     let low = state_below side (rank_of H v) (nodes_of H) (rank_below H (m.sides side).levelled v within) in
     let size = (m.sides side).sizes.known in
     read ∙ ap (λ (q : WeightSearch). get_or q.known.items at there) is ∙ ap (λ q. get_or x.known.items q there) e
     ∙ get_or_default x.known.items (state_of side (rank_of H v)) there UNREACHED (omega arith)
 
 -- this weight is at most UNREACHED
-pub there_small : (H : LevelsAndLegs) (x : WeightSearch) (m : IsWeighing H x) (side : Side) (v there : ℕ) → v < nodes_of H →
+pub there_small : (H : LevelsAndLegs) (ends : Ends) (x : WeightSearch) (m : IsWeighing H ends x) (side : Side) (v there : ℕ) →
+    v < nodes_of H →
     there ≡ get_or x.known.items (state_of side (rank_of H v)) UNREACHED → there ≤ UNREACHED
-there_small H x m side v there within read = elim (cases_eq there UNREACHED) [
+there_small H ends x m side v there within read = elim (cases_eq there UNREACHED) [
   | inl same ↦ omega arith
   | inr away ↦
       let known = by_state-at known_cost H side x.known.items UNREACHED None v within ∙ ap known_cost (sym read)
@@ -47,22 +49,23 @@ there_small H x m side v there within read = elim (cases_eq there UNREACHED) [
 ]
 
 -- e is the sum of two paths, one on each side, that meet
-abbrev IsSumOver : LevelsAndLegs → WeightSearch → Side → ℕ → Type 0
-IsSumOver H x side e =
-    (v : ℕ) × (a b : Cost) × IsUpwardCost (rows_of (weighed H) side) (source_of x side) v a
-    × IsUpwardCost (rows_of (weighed H) (other side)) (source_of x (other side)) v b × (a.weight + b.weight ≡ e)
+abbrev IsSumOver : LevelsAndLegs → Ends → Side → ℕ → Type 0
+IsSumOver H ends side e =
+    (v : ℕ) × (a b : Cost) × IsUpwardCost (rows_of (weighed H) side) (source_of ends side) v a
+    × IsUpwardCost (rows_of (weighed H) (other side)) (source_of ends (other side)) v b × (a.weight + b.weight ≡ e)
 
 -- such a sum can be seen from either side
-sum_up : (H : LevelsAndLegs) (x : WeightSearch) (side : Side) (e : ℕ) → IsSumOver H x side e → IsSumOver H x Up e
-sum_up H x Up e sum = sum
-sum_up H x Down e (v, a, b, here, there, is) = (v, b, a, there, here, omega arith)
+sum_up : (H : LevelsAndLegs) (ends : Ends) (side : Side) (e : ℕ) → IsSumOver H ends side e → IsSumOver H ends Up e
+sum_up H ends Up e sum = sum
+sum_up H ends Down e (v, a, b, here, there, is) = (v, b, a, there, here, omega arith)
 
 -- the least sum is at most each settled sum, seen from either side
-pub seen_from : (H : LevelsAndLegs) (x : WeightSearch) (least : ℕ) → IsLeastSoFar H x least → (side : Side) (u : ℕ) (a b : Cost) →
+pub seen_from : (H : LevelsAndLegs) (ends : Ends) (x : WeightSearch) (least : ℕ) → IsLeastSoFar H ends x least →
+    (side : Side) (u : ℕ) (a b : Cost) →
     IsSettled (side_costs H side x) (side_keys H side x) u a →
     IsSettled (side_costs H (other side) x) (side_keys H (other side) x) u b → least ≤ a.weight + b.weight
-seen_from H x least s Up u a b here there = s.seen u a b here there
-seen_from H x least s Down u a b here there = let le = s.seen u b a there here in omega arith
+seen_from H ends x least s Up u a b here there = s.seen u a b here there
+seen_from H ends x least s Down u a b here there = let le = s.seen u b a there here in omega arith
 
 -- if this holds from one side, it holds from the side up
 seen_up : (H : LevelsAndLegs) (z : WeightSearch) (least : ℕ) (side : Side) →
@@ -87,30 +90,31 @@ sum_falls Down f g here there = omega arith
 
 -- x settles the node v on one side, goes on from there, and becomes z; the other side may know v at the weight
 -- `there`
-module _ (H : LevelsAndLegs) (x z : WeightSearch) (least : ℕ) (s : IsLeastSoFar H x least) (side : Side) (v weight state : ℕ)
+module _ (H : LevelsAndLegs) (ends : Ends) (x z : WeightSearch) (least : ℕ) (s : IsLeastSoFar H ends x least) (side : Side)
+    (v weight state : ℕ)
     (within : v < nodes_of H) (is : state ≡ state_of side (rank_of H v))
-    (l : IsLeastState x.queue (weight, state)) (g : HasGoneOn H side (without_state x state) z) where
-  -- the search has the same ends and the same limit
-  pub same : IsSameWeighing x z
-  same = record { start = g.same.start; end = g.same.end; most = g.same.most }
-
+    (l : IsLeastState x.queue (weight, state)) (g : HasGoneOn H ends side (without_state x state) z) where
   -- the other side stays the same
   pub other_side : IsSameSide H (other side) x z
   other_side =
-      record { costs = g.there.costs; keys = g.there.keys ∙ (pop_there H side x (s.weighing.sides side) v weight state within is l).keys }
+      record {
+        costs = g.there.costs;
+        keys = g.there.keys ∙ (pop_there H ends side x (s.weighing.sides side) v weight state within is
+            l).keys;
+      }
 
   -- the search goes on
-  now_weighing : IsWeighing H z
+  now_weighing : IsWeighing H ends z
   now_weighing = record {
-    most = same.most ∙ s.weighing.most;
-    sides = each_side side (λ q. IsWeighingOn H q z) g.weighing
-        (side_stays H (other side) x z (s.weighing.sides (other side)) same other_side g.weighing.sizes);
+    most = s.weighing.most;
+    sides = each_side side (λ q. IsWeighingOn H ends q z) g.weighing
+        (side_stays H ends (other side) x z (s.weighing.sides (other side)) other_side g.weighing.sizes);
   }
 
   -- one state fewer is unsettled
   pub states_fall : count_unsettled_states H z < count_unsettled_states H x
   states_fall =
-      let falls = pop_falls H side x (s.weighing.sides side) v weight state within is l in
+      let falls = pop_falls H ends side x (s.weighing.sides side) v weight state within is l in
       let measure = g.measure in
       sum_falls side (λ q. count_unsettled_on H q z) (λ q. count_unsettled_on H q x) (omega arith)
       (ap (λ q. count_unsettled q (side_keys H (other side) z)) other_side.costs
@@ -119,7 +123,7 @@ module _ (H : LevelsAndLegs) (x z : WeightSearch) (least : ℕ) (s : IsLeastSoFa
   -- the weight that this side knows of v
   known_here : cost_at (side_costs H side x) v ≡ Some (weight_cost weight)
   known_here = (s.weighing.sides side).search.queued v (weight_cost weight)
-      (least_on_side H side x (s.weighing.sides side) v weight state within is l).has
+      (least_on_side H ends side x (s.weighing.sides side) v weight state within is l).has
 
   -- the other side knows v at the weight `there`, or not at all, and `now` is the new least sum
   module _ (there : ℕ) (at_there : there ≡ get_or x.known.items (state_of (other side) (rank_of H v)) UNREACHED)
@@ -133,8 +137,8 @@ module _ (H : LevelsAndLegs) (x z : WeightSearch) (least : ℕ) (s : IsLeastSoFa
     seen u a b here over =
         let old : IsSettled (side_costs H (other side) x) (side_keys H (other side) x) u b =
         (sym (ap (λ q. cost_at q u) other_side.costs) ∙ over.0, sym (ap (λ q. cost_at q u) other_side.keys) ∙ over.1) in
-        elim (pop_settled H side x (s.weighing.sides side) v weight state within is l u a (g.settled u a here)) [
-          | inl was ↦ let le = seen_from H x least s side u a b was old in omega arith
+        elim (pop_settled H ends side x (s.weighing.sides side) v weight state within is l u a (g.settled u a here)) [
+          | inl was ↦ let le = seen_from H ends x least s side u a b was old in omega arith
           | inr new ↦
               let b_there = known_weight there b (sym known_there ∙ ap (cost_at (side_costs H (other side) x)) (sym new.0) ∙ old.0) in
               let a_here = ap (λ (q : Cost). q.weight) new.1 in
@@ -142,7 +146,7 @@ module _ (H : LevelsAndLegs) (x z : WeightSearch) (least : ℕ) (s : IsLeastSoFa
         ]
 
     -- the sum at v is that of two paths
-    found_there : now ≡ weight + there → now < UNREACHED → IsSumOver H x side now
+    found_there : now ≡ weight + there → now < UNREACHED → IsSumOver H ends side now
     found_there e lt =
         let known = known_there ∙ reached_cost there (λ far. omega arith) in (
           v,
@@ -154,25 +158,17 @@ module _ (H : LevelsAndLegs) (x z : WeightSearch) (least : ℕ) (s : IsLeastSoFa
         )
 
     -- the new sum is that of two paths
-    found : now < UNREACHED → IsSumOver H x Up now
+    found : now < UNREACHED → IsSumOver H ends Up now
     found lt = elim either [
-      | inl old ↦ subst (IsSumOver H x Up) (sym old) (s.found (subst (λ q. q < UNREACHED) old lt))
-      | inr new ↦ sum_up H x side now (found_there new lt)
+      | inl old ↦ subst (IsSumOver H ends Up) (sym old) (s.found (subst (λ q. q < UNREACHED) old lt))
+      | inr new ↦ sum_up H ends side now (found_there new lt)
     ]
 
     -- the new sum is the least sum so far
-    pub least_then : IsLeastSoFar H z now
+    pub least_then : IsLeastSoFar H ends z now
     least_then = record {
       weighing = now_weighing;
       small = (let small = s.small in omega arith);
       seen = seen_up H z now side seen;
-      found = λ lt.
-          let f = found lt in (
-            f.0,
-            f.1,
-            f.2,
-            subst (λ q. IsUpwardCost (rows_of (weighed H) Up) q f.0 f.1) (sym same.start) f.3,
-            subst (λ q. IsUpwardCost (rows_of (weighed H) Down) q f.0 f.2) (sym same.end) f.4,
-            f.5,
-          );
+      found = found;
     }

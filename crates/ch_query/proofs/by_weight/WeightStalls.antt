@@ -9,6 +9,7 @@ use Rattle.ch_hierarchy.specs.Hierarchy.{LevelsAndLegs}
 use Rattle.ch_hierarchy.specs.declared.side.Side.{Side}
 use Rattle.ch_hierarchy.specs.Side.{other, state_of}
 use Rattle.ch_graph.specs.declared.cost.TheConstants.{UNREACHED}
+use Rattle.ch_query.specs.declared.question.Ends.{Ends}
 use Rattle.ch_query.specs.declared.weights.search.WeightSearch.{WeightSearch}
 use Rattle.ch_query.specs.Weighed.{weighed_leg}
 use Rattle.ch_query.specs.Weights.{known_cost, weight_cost, side_costs, source_of, is_idle_on, IsWeighingAt, HasGoneOn}
@@ -17,7 +18,7 @@ use Rattle.ch_query.proofs.by_weight.Known.{reached_cost}
 use Rattle.ch_query.proofs.by_weight.States.{by_state-at}
 use Rattle.ch_query.proofs.by_weight.LegsRead.{IsReadLeg, read_state}
 
-module _ (H : LevelsAndLegs) (side : Side) (x : WeightSearch) (v weight : ℕ) (w : IsWeighingAt H side x v weight) where
+module _ (H : LevelsAndLegs) (ends : Ends) (side : Side) (x : WeightSearch) (v weight : ℕ) (w : IsWeighingAt H ends side x v weight) where
   -- the weight that the test for stalling reads is the least known weight, or UNREACHED
   module _ (i : ℕ) (r : RankedLeg) (l : Leg) (is : IsReadLeg H (other side) v i r l) (state : ℕ) (at : state ≡ state_of side r.rank) where
     -- the state that is read exists
@@ -43,7 +44,7 @@ module _ (H : LevelsAndLegs) (side : Side) (x : WeightSearch) (v weight : ℕ) (
 
     -- if a sum is less than the weight, v may stay idle
     pub stall_idle : (known : ℕ) → known ≡ get_or x.known.items state known → known + r.weight < weight →
-        is_idle_on H side (source_of x side) v (weight_cost weight)
+        is_idle_on H side (source_of ends side) v (weight_cost weight)
     stall_idle known e less =
         let light = w.here.search.light v (weight_cost weight) w.here.here.0 in
         let most = w.here.search.limits in
@@ -57,10 +58,9 @@ module _ (H : LevelsAndLegs) (side : Side) (x : WeightSearch) (v weight : ℕ) (
         }
 
   -- the legs of an idle node need not be taken
-  pub stalled_goes_on : is_idle_on H side (source_of x side) v (weight_cost weight) → HasGoneOn H side x x
+  pub stalled_goes_on : is_idle_on H side (source_of ends side) v (weight_cost weight) → HasGoneOn H ends side x x
   stalled_goes_on idle = record {
     weighing = record { levelled = w.levelled; sizes = w.sizes; search = stalled _ _ _ _ _ v (weight_cost weight) w.here idle };
-    same = record { start = refl; end = refl; most = refl };
     there = record { costs = refl; keys = refl };
     settled = λ u c is. is;
     stays = λ u c is. is;

@@ -7,10 +7,12 @@ ghost use Rattle.ch_hierarchy.specs.Side.{other};
 ghost use Rattle.ch_query.specs.Distance.{IsKeptForSome};
 ghost use Rattle.ch_query.specs.Marks.{AreMarked, AreMarkedBut, KeepsMarks, ShowsMark, IsAdded, IsLeastMarked, IsMarkedWay};
 ghost use Rattle.ch_query.specs.Underway.{IsTouched};
-ghost use Rattle.ch_query.specs.Weights.{known_cost, IsWeighingAt, IsSameWeighing, UnreachedStateIsUnkeyed, HasGoneOn, AtRank, IsCleanFor, AreKeysFrom, count_unsettled_states};
+ghost use Rattle.ch_query.specs.Weights.{known_cost, IsWeighingAt, UnreachedStateIsUnkeyed, HasGoneOn, AtRank, IsCleanFor, AreKeysFrom, count_unsettled_states};
 
 use super::search::WeightSearch;
+use crate::question::Ends;
 use ch_graph::UNREACHED;
+use ch_graph::limits::MOST_WEIGHT;
 use ch_hierarchy::{Hierarchy, Side};
 
 /// The mark of a state with two nodes before it on lightest paths. It is also the rank of a least sum that two nodes
@@ -45,22 +47,21 @@ impl WeightSearch {
     /// Gives a state the weight of a path over the node of this rank, if that is less than the known weight, and marks
     /// it with the rank. If the weight is the known one, the state is tied.
     #[inline]
-    fn relax_marked(&mut self, marks: &mut [u32], state: u32, weight: u64, rank: u32)
+    fn relax_marked(&mut self, marks: &mut [u32], most: u64, state: u32, weight: u64, rank: u32)
         requires state { state < length self.old.known.items }
-        requires most { self.old.most ≤ MOST_WEIGHT }
+        requires most { most ≤ MOST_WEIGHT }
         requires queue { length self.old.queue ≡ length self.old.known.items }
         requires marks { length marks.old ≡ length self.old.known.items }
         requires unkeyed { UnreachedStateIsUnkeyed self.old state }
         requires touched { IsTouched (map known_cost self.old.known.items) self.old.touched }
-        ensures shows { ShowsMark self.old marks.old state weight rank self.new marks.new }
+        ensures shows { ShowsMark most self.old marks.old state weight rank self.new marks.new }
         ensures touched { IsTouched (map known_cost self.new.known.items) self.new.touched }
-        ensures same { IsSameWeighing self.old self.new }
         ensures count { length marks.new ≡ length marks.old }
     {
         let known = self.known[state as usize];
         if weight == known {
             marks[state as usize] = TIED;
-        } else if weight <= self.most && weight < known {
+        } else if weight <= most && weight < known {
             marks[state as usize] = rank;
             self.reach(state, weight);
         }
@@ -72,20 +73,27 @@ impl WeightSearch {
         &mut self,
         marks: &mut [u32],
         hierarchy: &Hierarchy,
+        ends: Ends,
         side: Side,
         rank: u32,
         weight: u64,
     )
         requires rank { rank < nodes_of hierarchy.now }
-        requires weighing { AtRank hierarchy.now rank (λ v. IsWeighingAt hierarchy.now side self.old v weight) }
+        requires weighing { AtRank hierarchy.now rank (λ v. IsWeighingAt hierarchy.now ends side self.old v weight) }
         requires count { length marks.old ≡ 2 * nodes_of hierarchy.now }
-        requires marked { AtRank hierarchy.now rank (AreMarkedBut hierarchy.now side self.old marks.old) }
-        ensures gone { HasGoneOn hierarchy.now side self.old self.new }
-        ensures marked { AreMarked hierarchy.now side self.new marks.new }
+        requires marked { AtRank hierarchy.now rank (AreMarkedBut hierarchy.now ends side self.old marks.old) }
+        ensures gone { HasGoneOn hierarchy.now ends side self.old self.new }
+        ensures marked { AreMarked hierarchy.now ends side self.new marks.new }
         ensures there { KeepsMarks (other side) marks.old marks.new }
     {
         for leg in hierarchy.ranked_legs(side, rank) {
-            self.relax_marked(marks, side.state(leg.rank), weight + leg.weight, rank);
+            self.relax_marked(
+                marks,
+                ends.most,
+                side.state(leg.rank),
+                weight + leg.weight,
+                rank,
+            );
         }
     }
 
@@ -95,22 +103,23 @@ impl WeightSearch {
         &mut self,
         marks: &mut [u32],
         hierarchy: &Hierarchy,
+        ends: Ends,
         side: Side,
         rank: u32,
         weight: u64,
     )
         requires rank { rank < nodes_of hierarchy.now }
-        requires weighing { AtRank hierarchy.now rank (λ v. IsWeighingAt hierarchy.now side self.old v weight) }
+        requires weighing { AtRank hierarchy.now rank (λ v. IsWeighingAt hierarchy.now ends side self.old v weight) }
         requires count { length marks.old ≡ 2 * nodes_of hierarchy.now }
-        requires marked { AtRank hierarchy.now rank (AreMarkedBut hierarchy.now side self.old marks.old) }
-        ensures gone { HasGoneOn hierarchy.now side self.old self.new }
-        ensures marked { AreMarked hierarchy.now side self.new marks.new }
+        requires marked { AtRank hierarchy.now rank (AreMarkedBut hierarchy.now ends side self.old marks.old) }
+        ensures gone { HasGoneOn hierarchy.now ends side self.old self.new }
+        ensures marked { AreMarked hierarchy.now ends side self.new marks.new }
         ensures there { KeepsMarks (other side) marks.old marks.new }
     {
-        if self.is_stalled(hierarchy, side, rank, weight) {
+        if self.is_stalled(hierarchy, ends, side, rank, weight) {
             return;
         }
-        self.expand_marked(marks, hierarchy, side, rank, weight);
+        self.expand_marked(marks, hierarchy, ends, side, rank, weight);
     }
 
     /// Settles the state of least weight, unless that weight is greater than the least sum. Returns whether it did.
@@ -118,11 +127,11 @@ impl WeightSearch {
         &mut self,
         marks: &mut [u32],
         hierarchy: &Hierarchy,
+        ends: Ends,
         least: &mut LeastSum,
     ) -> bool
-        requires { IsLeastMarked hierarchy.now self.old marks.old least.old }
-        ensures least { IsLeastMarked hierarchy.now self.new marks.new least.new }
-        ensures same { IsSameWeighing self.old self.new }
+        requires { IsLeastMarked hierarchy.now ends self.old marks.old least.old }
+        ensures least { IsLeastMarked hierarchy.now ends self.new marks.new least.new }
         ensures less { result ≡ true → count_unsettled_states hierarchy.now self.new < count_unsettled_states hierarchy.now self.old }
         ensures past { result ≡ false → AreKeysFrom self.new.queue (least.new.weight + 1) }
     {
@@ -133,7 +142,7 @@ impl WeightSearch {
         let rank = state / 2;
         let there = self.known[side.other().state(rank) as usize];
         least.add(weight + there, rank);
-        self.settle_marked(marks, hierarchy, side, rank, weight);
+        self.settle_marked(marks, hierarchy, ends, side, rank, weight);
         true
     }
 
@@ -155,12 +164,17 @@ impl WeightSearch {
         ensures clean { IsCleanFor (nodes_of hierarchy.now) self.new }
         ensures count { length marks.new ≡ length marks.old }
     {
+        let ends = Ends {
+            start,
+            end,
+            most: MOST_WEIGHT,
+        };
         self.begin(hierarchy, start, end);
         let mut least = LeastSum {
             weight: UNREACHED,
             rank: TIED,
         };
-        while self.advance_marked(marks, hierarchy, &mut least) {}
+        while self.advance_marked(marks, hierarchy, ends, &mut least) {}
         self.clean();
         least
     }

@@ -10,9 +10,11 @@ ghost use Rattle.std.specs.Prelude.{◌≡◌, ℕ, ◌<◌, ◌≤◌, length, 
 ghost use Rattle.ch_graph.specs.declared.limits.TheConstants.{MOST_WEIGHT};
 ghost use Rattle.ch_hierarchy.specs.Hierarchy.{nodes_of, IsLevelled};
 ghost use Rattle.ch_query.specs.Distance.{IsKeptForSome, IsLeastWeight};
+ghost use Rattle.ch_query.specs.Questions.{all_paths};
 ghost use Rattle.ch_query.specs.Underway.{IsTouched};
-ghost use Rattle.ch_query.specs.Weights.{known_cost, is_idle_on, weight_cost, source_of, IsSizedFor, IsWeighingAt, IsSameWeighing, UnreachedStateIsUnkeyed, HasGoneOn, ShowsWeight, AtRank, IsCleanFor, IsLeastSoFar, IsUnsettled, IsLeastState, AreKeysFrom, count_unsettled_states, without_state};
+ghost use Rattle.ch_query.specs.Weights.{known_cost, is_idle_on, weight_cost, source_of, IsSizedFor, IsWeighingAt, UnreachedStateIsUnkeyed, HasGoneOn, ShowsWeight, AtRank, IsCleanFor, IsLeastSoFar, IsUnsettled, IsLeastState, AreKeysFrom, count_unsettled_states, without_state};
 
+use crate::question::Ends;
 use ch_graph::UNREACHED;
 use ch_graph::limits::MOST_WEIGHT;
 use ch_hierarchy::{Hierarchy, Side};
@@ -22,11 +24,6 @@ use std::alloc::{AllocError, Global};
 /// The state of a search for a distance, and the room for it.
 #[derive(Drop)]
 pub(crate) struct WeightSearch {
-    pub(crate) start: u32,
-    pub(crate) end: u32,
-    /// The most that a path may weigh. A leg that makes a path heavier is not taken, so no state that is
-    /// farther away gets a key.
-    pub(crate) most: u64,
     /// By state: the least known weight of a path from the start to its node, or from its node to the end.
     pub(crate) known: Vec<u64>,
     /// The states that are reached and not settled, by weight.
@@ -48,9 +45,6 @@ impl WeightSearch {
         let queue = KeyQueue::new(alloc, states)?;
         let touched = Vec::with_capacity(alloc, states as usize)?;
         Ok(WeightSearch {
-            start: 0,
-            end: 0,
-            most: MOST_WEIGHT,
             known,
             queue,
             touched,
@@ -68,7 +62,6 @@ impl WeightSearch {
         ensures known { self.new.known.items ≡ slice_set self.old.known.items state weight }
         ensures queue { self.new.queue ≡ slice_set self.old.queue state (Some weight) }
         ensures touched { IsTouched (map known_cost self.new.known.items) self.new.touched }
-        ensures same { IsSameWeighing self.old self.new }
     {
         if self.known[state as usize] == UNREACHED {
             self.touched.push_reserved(state);
@@ -79,32 +72,31 @@ impl WeightSearch {
         self.known[state as usize] = weight;
     }
 
-    /// Gives a state the weight of a path to it, if that is less than the known weight.
+    /// Gives a state the weight of a path to it, if that is at most `most` and less than the known weight.
     #[inline]
-    fn relax(&mut self, state: u32, weight: u64)
+    fn relax(&mut self, most: u64, state: u32, weight: u64)
         requires state { state < length self.old.known.items }
-        requires most { self.old.most ≤ MOST_WEIGHT }
+        requires most { most ≤ MOST_WEIGHT }
         requires queue { length self.old.queue ≡ length self.old.known.items }
         requires unkeyed { UnreachedStateIsUnkeyed self.old state }
         requires touched { IsTouched (map known_cost self.old.known.items) self.old.touched }
-        ensures shows { ShowsWeight self.old state weight self.new }
+        ensures shows { ShowsWeight most self.old state weight self.new }
         ensures touched { IsTouched (map known_cost self.new.known.items) self.new.touched }
-        ensures same { IsSameWeighing self.old self.new }
     {
-        if weight <= self.most && weight < self.known[state as usize] {
+        if weight <= most && weight < self.known[state as usize] {
             self.reach(state, weight);
         }
     }
 
     /// Takes each leg of the state that was settled last.
     #[inline]
-    fn expand(&mut self, hierarchy: &Hierarchy, side: Side, rank: u32, weight: u64)
+    fn expand(&mut self, hierarchy: &Hierarchy, ends: Ends, side: Side, rank: u32, weight: u64)
         requires rank { rank < nodes_of hierarchy.now }
-        requires weighing { AtRank hierarchy.now rank (λ v. IsWeighingAt hierarchy.now side self.old v weight) }
-        ensures { HasGoneOn hierarchy.now side self.old self.new }
+        requires weighing { AtRank hierarchy.now rank (λ v. IsWeighingAt hierarchy.now ends side self.old v weight) }
+        ensures { HasGoneOn hierarchy.now ends side self.old self.new }
     {
         for leg in hierarchy.ranked_legs(side, rank) {
-            self.relax(side.state(leg.rank), weight + leg.weight);
+            self.relax(ends.most, side.state(leg.rank), weight + leg.weight);
         }
     }
 
@@ -114,14 +106,15 @@ impl WeightSearch {
     pub(super) fn is_stalled(
         &self,
         hierarchy: &Hierarchy,
+        ends: Ends,
         side: Side,
         rank: u32,
         weight: u64,
     ) -> bool
         requires rank { rank < nodes_of hierarchy.now }
-        requires weighing { AtRank hierarchy.now rank (λ v. IsWeighingAt hierarchy.now side self.now v weight) }
+        requires weighing { AtRank hierarchy.now rank (λ v. IsWeighingAt hierarchy.now ends side self.now v weight) }
         ensures levelled { IsLevelled hierarchy.now }
-        ensures idle { result ≡ true → AtRank hierarchy.now rank (λ v. is_idle_on hierarchy.now side (source_of self.now side) v (weight_cost weight)) }
+        ensures idle { result ≡ true → AtRank hierarchy.now rank (λ v. is_idle_on hierarchy.now side (source_of ends side) v (weight_cost weight)) }
     {
         for leg in hierarchy.ranked_legs(side.other(), rank) {
             if self.known[side.state(leg.rank) as usize] + leg.weight < weight {
@@ -137,19 +130,20 @@ impl WeightSearch {
     pub(crate) fn settle(
         &mut self,
         hierarchy: &Hierarchy,
+        ends: Ends,
         side: Side,
         rank: u32,
         weight: u64,
     ) -> bool
         requires rank { rank < nodes_of hierarchy.now }
-        requires weighing { AtRank hierarchy.now rank (λ v. IsWeighingAt hierarchy.now side self.old v weight) }
-        ensures gone { HasGoneOn hierarchy.now side self.old self.new }
-        ensures stalled { result ≡ false → AtRank hierarchy.now rank (λ v. is_idle_on hierarchy.now side (source_of self.new side) v (weight_cost weight)) }
+        requires weighing { AtRank hierarchy.now rank (λ v. IsWeighingAt hierarchy.now ends side self.old v weight) }
+        ensures gone { HasGoneOn hierarchy.now ends side self.old self.new }
+        ensures stalled { result ≡ false → AtRank hierarchy.now rank (λ v. is_idle_on hierarchy.now side (source_of ends side) v (weight_cost weight)) }
     {
-        if self.is_stalled(hierarchy, side, rank, weight) {
+        if self.is_stalled(hierarchy, ends, side, rank, weight) {
             return false;
         }
-        self.expand(hierarchy, side, rank, weight);
+        self.expand(hierarchy, ends, side, rank, weight);
         true
     }
 
@@ -167,10 +161,9 @@ impl WeightSearch {
 
     /// Settles the state of least weight, if that weight is less than the least sum. Returns whether it
     /// did.
-    fn advance(&mut self, hierarchy: &Hierarchy, least: &mut u64) -> bool
-        requires { IsLeastSoFar hierarchy.now self.old least.old }
-        ensures least { IsLeastSoFar hierarchy.now self.new least.new }
-        ensures same { IsSameWeighing self.old self.new }
+    fn advance(&mut self, hierarchy: &Hierarchy, ends: Ends, least: &mut u64) -> bool
+        requires { IsLeastSoFar hierarchy.now ends self.old least.old }
+        ensures least { IsLeastSoFar hierarchy.now ends self.new least.new }
         ensures less { result ≡ true → count_unsettled_states hierarchy.now self.new < count_unsettled_states hierarchy.now self.old }
         ensures past { result ≡ false → AreKeysFrom self.new.queue least.new }
     {
@@ -181,7 +174,7 @@ impl WeightSearch {
         let rank = state / 2;
         let there = self.known[side.other().state(rank) as usize];
         *least = (*least).min(weight + there);
-        self.settle(hierarchy, side, rank, weight);
+        self.settle(hierarchy, ends, side, rank, weight);
         true
     }
 
@@ -190,14 +183,9 @@ impl WeightSearch {
         requires clean { IsCleanFor (nodes_of hierarchy.now) self.old }
         requires start { start < nodes_of hierarchy.now }
         requires end { end < nodes_of hierarchy.now }
-        ensures least { IsLeastSoFar hierarchy.now self.new UNREACHED }
+        ensures least { IsLeastSoFar hierarchy.now (all_paths start end) self.new UNREACHED }
         ensures unsettled { IsUnsettled hierarchy.now self.new }
-        ensures start { self.new.start ≡ start }
-        ensures end { self.new.end ≡ end }
     {
-        self.start = start;
-        self.end = end;
-        self.most = MOST_WEIGHT;
         self.reach(Side::Up.state(hierarchy.rank(start)), 0);
         self.reach(Side::Down.state(hierarchy.rank(end)), 0);
     }
@@ -228,9 +216,14 @@ impl WeightSearch {
         ensures least { IsLeastWeight hierarchy.now start end result }
         ensures clean { IsCleanFor (nodes_of hierarchy.now) self.new }
     {
+        let ends = Ends {
+            start,
+            end,
+            most: MOST_WEIGHT,
+        };
         self.begin(hierarchy, start, end);
         let mut least = UNREACHED;
-        while self.advance(hierarchy, &mut least) {}
+        while self.advance(hierarchy, ends, &mut least) {}
         self.clean();
         if least == UNREACHED {
             return None;

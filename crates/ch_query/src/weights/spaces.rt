@@ -2,30 +2,26 @@
 ghost use Rattle.std.specs.Prelude.{◌≡◌, ◌<◌, ◌≤◌, IfOk, OnOk};
 ghost use Rattle.ch_graph.specs.declared.limits.TheConstants.{MOST_WEIGHT};
 ghost use Rattle.ch_hierarchy.specs.Hierarchy.{nodes_of};
+ghost use Rattle.ch_query.specs.declared.question.Ends.{Ends as AnyEnds};
 ghost use Rattle.ch_query.specs.Distance.{IsKeptForSome};
 ghost use Rattle.ch_query.specs.Search.{IsEmpty};
 ghost use Rattle.ch_query.specs.SearchSpace.{IsRankedSpace};
-ghost use Rattle.ch_query.specs.Weights.{side_keys, source_of, IsSameWeighing, IsWeighingOn, HasBegunOn, AreUnstalledOn, IsCleanFor};
+ghost use Rattle.ch_query.specs.Weights.{side_keys, source_of, IsWeighingOn, HasBegunOn, AreUnstalledOn, IsCleanFor};
 
 use super::search::WeightSearch;
+use crate::question::Ends;
 use crate::scratch::Scratch;
 use crate::start::{Start, most_within};
 use ch_hierarchy::{Hierarchy, Side};
 use std::alloc::{AllocError, Global};
 
 impl WeightSearch {
-    /// Puts a node into a clean search on this side, for paths that weigh at most `most`.
-    fn begin_on(&mut self, hierarchy: &Hierarchy, side: Side, source: u32, most: u64)
+    /// Puts a node into a clean search on this side. Afterwards the search has begun there, for each limit.
+    fn begin_on(&mut self, hierarchy: &Hierarchy, side: Side, source: u32)
         requires clean { IsCleanFor (nodes_of hierarchy.now) self.old }
         requires source { source < nodes_of hierarchy.now }
-        requires most { most ≤ MOST_WEIGHT }
-        ensures begun { HasBegunOn hierarchy.now side self.new }
-        ensures source { source_of self.new side ≡ source }
-        ensures most { self.new.most ≡ most }
+        ensures { (ends : AnyEnds) → source_of ends side ≡ source → ends.most ≤ MOST_WEIGHT → HasBegunOn hierarchy.now ends side self.new }
     {
-        self.start = source;
-        self.end = source;
-        self.most = most;
         self.reach(side.state(hierarchy.rank(source)), 0);
     }
 
@@ -35,19 +31,19 @@ impl WeightSearch {
     fn explore(
         &mut self,
         hierarchy: &Hierarchy,
+        ends: Ends,
         side: Side,
         found: &mut Vec<(u32, u64)>,
     ) -> Result<(), AllocError>
-        requires begun { HasBegunOn hierarchy.now side self.old }
-        ensures weighing { IsWeighingOn hierarchy.now side self.new }
-        ensures same { IsSameWeighing self.old self.new }
+        requires begun { HasBegunOn hierarchy.now ends side self.old }
+        ensures weighing { IsWeighingOn hierarchy.now ends side self.new }
         ensures done { OnOk result (IsEmpty (side_keys hierarchy.now side self.new)) }
-        ensures unstalled { OnOk result (AreUnstalledOn hierarchy.now side self.new found.new.items) }
+        ensures unstalled { OnOk result (AreUnstalledOn hierarchy.now ends side self.new found.new.items) }
     {
         found.clear();
         while let Some((weight, state)) = self.queue.pop() {
             let rank = state / 2;
-            if self.settle(hierarchy, side, rank, weight) {
+            if self.settle(hierarchy, ends, side, rank, weight) {
                 found.push((rank, weight))?;
             }
         }
@@ -68,9 +64,13 @@ impl WeightSearch {
         ensures space { OnOk result (IsRankedSpace hierarchy.now start.side start.within start.source found.new.items) }
         ensures clean { IsCleanFor (nodes_of hierarchy.now) self.new }
     {
-        let most = most_within(start.within);
-        self.begin_on(hierarchy, start.side, start.source, most);
-        let explored = self.explore(hierarchy, start.side, found);
+        let ends = Ends {
+            start: start.source,
+            end: start.source,
+            most: most_within(start.within),
+        };
+        self.begin_on(hierarchy, start.side, start.source);
+        let explored = self.explore(hierarchy, ends, start.side, found);
         self.clean();
         explored
     }

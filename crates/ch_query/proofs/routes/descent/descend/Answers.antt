@@ -7,8 +7,11 @@ use Rattle.ch_query.proofs.routes.descent.descend.Goals as goal
 pub loop-node-init : goal.loop-node-init
 loop-node-init c =
     let r = c.requires.reached in
-    record { traced = (r.0, r.1, tracing_starts c.args.hierarchy.now _ c.args.search.now c.args.meet c.args.pending.now r); capacity =
-        refl }
+    record {
+      traced = (r.0, r.1, tracing_starts c.args.hierarchy.now _ c.args.search.now c.args.meet c.args.pending.now r);
+      capacity =
+          refl;
+    }
 
 pub rank-requires : goal.rank-requires
 rank-requires c =

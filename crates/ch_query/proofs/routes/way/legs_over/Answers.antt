@@ -11,7 +11,7 @@ descend-requires-clause-reached c =
     let size = ap length none in
     let ok = c.reserve.new.self.ok in
     room_down c.args.hierarchy.now q.kept c.args.start c.args.end c.args.up.now c.args.down.now c.args.met.1 c.args.met.0 q.meeting q.past
-        q.meet
+    q.meet
     c.reserve.new.self none (omega (arith, size, ok)) (omega (arith, e))
 
 pub descend-requires-2-clause-reached : goal.descend-requires-2-clause-reached
@@ -24,7 +24,7 @@ descend-requires-2-clause-reached c =
     let fall = c.descend.ensures in
     let turn = c.reverse.ensures in
     room_up c.args.hierarchy.now q.kept c.args.start c.args.end c.args.up.now c.args.down.now c.args.met.1 c.args.met.0 q.meeting q.past
-        q.meet
+    q.meet
     c.reserve.new.self none (omega (arith, size, ok)) (omega (arith, e))
     c.descend.new.pending c.reverse.new.self fall.traced fall.capacity turn.permutation turn.len turn.capacity
 

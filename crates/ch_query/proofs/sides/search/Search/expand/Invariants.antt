@@ -8,4 +8,4 @@ use Rattle.ch_query.proofs.sides.search.Search.expand.Given as goal
 abbrev pub invariant-loop-leg : goal.invariant-loop-leg
 invariant-loop-leg l =
     IsPartlyExpanded l.hierarchy l.question l.fn.self l.self l.node l.cost (take l.leg-index
-        (row (rows_of l.hierarchy l.question.side) l.node))
+    (row (rows_of l.hierarchy l.question.side) l.node))

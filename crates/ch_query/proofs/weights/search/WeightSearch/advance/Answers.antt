@@ -41,9 +41,9 @@ overflow_add-weight c =
     let size = on.sizes.queue in
     let n = node_of_rank H on.levelled (c.in-Some.state / 2) (omega arith) in
     let at = c.state.ensures ∙ (λ i. state_of (c.other.ensures i) (sym n.2 i)) in
-    let read = read_there H c.args.self.now c.pop_below.new.self m c.in-Some.state popped.2 (other c.of_state-side.result) n.0
+    let read = read_there H c.args.ends c.args.self.now c.pop_below.new.self m c.in-Some.state popped.2 (other c.of_state-side.result) n.0
     c.state.result n.1 at c.index-there.result.now c.index-there.ensures in
-    let there = there_small H c.args.self.now m (other c.of_state-side.result) n.0 c.index-there.result.now n.1 read in
+    let there = there_small H c.args.ends c.args.self.now m (other c.of_state-side.result) n.0 c.index-there.result.now n.1 read in
     let small = c.requires.small in
     let less = popped.1 in
     omega arith
@@ -52,8 +52,9 @@ pub settle-requires-clause-weighing : goal.settle-requires-clause-weighing
 settle-requires-clause-weighing c v within at =
     let popped = c.in-Some.ensures in
     let side = c.of_state-side.result in
-    subst (λ (y : WeightSearch). IsWeighingAt c.args.hierarchy.now side y v c.in-Some.weight) (sym popped.2)
-    (pop_weighs c.args.hierarchy.now side c.args.self.now (c.requires.weighing.sides side) v c.in-Some.weight c.in-Some.state within
+    subst (λ (y : WeightSearch). IsWeighingAt c.args.hierarchy.now c.args.ends side y v c.in-Some.weight) (sym popped.2)
+    (pop_weighs c.args.hierarchy.now c.args.ends side c.args.self.now (c.requires.weighing.sides side) v c.in-Some.weight c.in-Some.state
+    within
     (c.of_state-side.ensures ∙ ap (state_of side) (sym at)) popped.0)
 
 pub returns-clause-least : goal.returns-clause-least
@@ -72,11 +73,11 @@ returns-clause-least c =
     let is = c.of_state-side.ensures ∙ ap (state_of side) (sym n.2) in
     let at = c.state.ensures ∙ (λ i. state_of (c.other.ensures i) (sym n.2 i)) in
     let there = c.index-there.result.now in
-    let read = read_there H x c.pop_below.new.self m c.in-Some.state popped.2 (other side) n.0 c.state.result n.1 at there
+    let read = read_there H c.args.ends x c.pop_below.new.self m c.in-Some.state popped.2 (other side) n.0 c.state.result n.1 at there
     c.index-there.ensures in
-    let gone = subst (λ y. HasGoneOn H side y z) popped.2 after.gone in
+    let gone = subst (λ y. HasGoneOn H c.args.ends side y z) popped.2 after.gone in
     let min = c.min.ensures in
-    least_then H x z c.args.least.now c.requires side n.0 c.in-Some.weight c.in-Some.state n.1 is popped.0 gone there read
+    least_then H c.args.ends x z c.args.least.now c.requires side n.0 c.in-Some.weight c.in-Some.state n.1 is popped.0 gone there read
     c.min.result (omega arith) (omega arith)
     (elim (cases_lt c.args.least.now (c.in-Some.weight + there)) [ inl lt ↦ inl (omega arith) | inr ge ↦ inr (omega arith) ])
 
@@ -89,6 +90,6 @@ returns-clause-less c _ =
     let low = key_state c.args.self.now.queue c.in-Some.state c.in-Some.weight popped.0.has in
     let size = on.sizes.queue in
     let n = node_of_rank H on.levelled (c.in-Some.state / 2) (omega arith) in
-    states_fall H c.args.self.now c.settle.new.self c.args.least.now c.requires side n.0 c.in-Some.weight c.in-Some.state n.1
+    states_fall H c.args.ends c.args.self.now c.settle.new.self c.args.least.now c.requires side n.0 c.in-Some.weight c.in-Some.state n.1
     (c.of_state-side.ensures ∙ ap (state_of side) (sym n.2)) popped.0
-    (subst (λ y. HasGoneOn H side y c.settle.new.self) popped.2 c.settle.ensures.gone)
+    (subst (λ y. HasGoneOn H c.args.ends side y c.settle.new.self) popped.2 c.settle.ensures.gone)

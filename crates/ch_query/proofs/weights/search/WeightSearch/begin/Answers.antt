@@ -30,9 +30,7 @@ returns-clause-least c =
     let queue = second.queue ∙ ap (λ q. set q c.state-2.result (Some 0)) first.queue
     ∙ (λ i. set (set c.args.self.now.queue (from i) (Some 0)) (to i) (Some 0)) in
     weighing_begun c.args.hierarchy.now c.rank.ensures.levelled c.args.self.now _ c.args.start c.args.end c.requires.clean
-    c.requires.start c.requires.end
-    (second.same.start ∙ first.same.start) (second.same.end ∙ first.same.end) (second.same.most ∙ first.same.most) known queue
-    second.touched
+    c.requires.start c.requires.end known queue second.touched
 
 pub returns-clause-unsettled : goal.returns-clause-unsettled
 returns-clause-unsettled c =
@@ -45,6 +43,4 @@ returns-clause-unsettled c =
     let queue = second.queue ∙ ap (λ q. set q c.state-2.result (Some 0)) first.queue
     ∙ (λ i. set (set c.args.self.now.queue (from i) (Some 0)) (to i) (Some 0)) in
     weighing_fresh c.args.hierarchy.now c.rank.ensures.levelled c.args.self.now c.reach-2.new.self c.args.start c.args.end c.requires.clean
-    c.requires.start c.requires.end
-    (second.same.start ∙ first.same.start) (second.same.end ∙ first.same.end) (second.same.most ∙ first.same.most) known queue
-    second.touched
+    c.requires.start c.requires.end known queue second.touched

@@ -61,7 +61,7 @@ relax-requires-clause-unkeyed c =
     let k = c.ranked_legs-leg-items.ensures.levelled in
     let n = node_of_rank H k c.args.rank c.requires.rank in
     let r = read_leg H k c.args.side n.0 _ _ _ (c.ranked_legs-leg-items.ensures.row n.0 n.1 n.2) c.loop-leg-test.true in
-    unreached_here H c.args.side c.loop-leg.self n.0 c.args.weight (c.loop-leg.invariant n.0 n.1 n.2).weighing r.0.node
+    unreached_here H c.args.ends c.args.side c.loop-leg.self n.0 c.args.weight (c.loop-leg.invariant n.0 n.1 n.2).weighing r.0.node
     c.state.result r.1.node
     (read_state H k c.args.side c.args.side n.0 _ _ r.0 r.1 _ c.state.ensures).0
 
@@ -70,13 +70,13 @@ loop-leg-preserved c v within rank =
     let H = c.args.hierarchy.now in
     let k = c.ranked_legs-leg-items.ensures.levelled in
     let r = read_leg H k c.args.side v _ _ _ (c.ranked_legs-leg-items.ensures.row v within rank) c.loop-leg-test.true in
-    partly_more H c.args.side c.args.self.now c.loop-leg.self c.relax.new.self v c.args.weight _ _ r.0 c.state.result
+    partly_more H c.args.ends c.args.side c.args.self.now c.loop-leg.self c.relax.new.self v c.args.weight _ _ r.0 c.state.result
     (c.loop-leg.invariant v within rank) r.1 c.state.ensures
-    c.relax.ensures.shows c.relax.ensures.touched c.relax.ensures.same
+    c.relax.ensures.shows c.relax.ensures.touched
 
 pub returns : goal.returns
 returns c =
     let H = c.args.hierarchy.now in
     let n = node_of_rank H c.ranked_legs-leg-items.ensures.levelled c.args.rank c.requires.rank in
-    partly_whole H c.args.side c.args.self.now c.loop-leg.self n.0 c.args.weight _ (c.loop-leg.invariant n.0 n.1 n.2)
+    partly_whole H c.args.ends c.args.side c.args.self.now c.loop-leg.self n.0 c.args.weight _ (c.loop-leg.invariant n.0 n.1 n.2)
     (read_whole H c.args.side n.0 _ _ (c.ranked_legs-leg-items.ensures.row n.0 n.1 n.2) c.loop-leg-test.false)

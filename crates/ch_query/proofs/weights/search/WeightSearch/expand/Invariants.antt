@@ -7,5 +7,5 @@ use Rattle.ch_query.specs.Weights.{AtRank, IsPartlyWeighed}
 use Rattle.ch_query.proofs.weights.search.WeightSearch.expand.Given as goal
 
 abbrev pub invariant-loop-leg : goal.invariant-loop-leg
-invariant-loop-leg l = AtRank l.hierarchy l.rank (λ v. IsPartlyWeighed l.hierarchy l.side l.fn.self l.self v l.weight
+invariant-loop-leg l = AtRank l.hierarchy l.rank (λ v. IsPartlyWeighed l.hierarchy l.ends l.side l.fn.self l.self v l.weight
     (take l.leg-index (row (rows_of (weighed l.hierarchy) l.side) v)))

@@ -62,7 +62,7 @@ relax_marked-requires-clause-unkeyed c =
     let k = c.ranked_legs-leg-items.ensures.levelled in
     let n = node_of_rank H k c.args.rank c.requires.rank in
     let r = read_leg H k c.args.side n.0 _ _ _ (c.ranked_legs-leg-items.ensures.row n.0 n.1 n.2) c.loop-leg-test.true in
-    unreached_here H c.args.side c.loop-leg.self n.0 c.args.weight (c.loop-leg.invariant.weighing n.0 n.1 n.2).weighing r.0.node
+    unreached_here H c.args.ends c.args.side c.loop-leg.self n.0 c.args.weight (c.loop-leg.invariant.weighing n.0 n.1 n.2).weighing r.0.node
     c.state.result r.1.node
     (read_state H k c.args.side c.args.side n.0 _ _ r.0 r.1 _ c.state.ensures).0
 
@@ -76,9 +76,9 @@ relax_marked-requires-clause-marks c =
 
 pub loop-leg-init : goal.loop-leg-init
 loop-leg-init c = record {
-  weighing = λ v within rank. partly_none c.args.hierarchy.now c.args.side c.args.self.now v c.args.weight
+  weighing = λ v within rank. partly_none c.args.hierarchy.now c.args.ends c.args.side c.args.self.now v c.args.weight
       (c.requires.weighing v within rank);
-  marks = λ v within rank. partly_unmarked c.args.hierarchy.now c.args.side c.args.self.now v c.args.weight c.args.marks.now
+  marks = λ v within rank. partly_unmarked c.args.hierarchy.now c.args.ends c.args.side c.args.self.now v c.args.weight c.args.marks.now
       (c.requires.marked v within rank);
 }
 
@@ -93,12 +93,14 @@ loop-leg-preserved c =
     record {
       weighing = λ v within rank.
           let r = read_leg H k c.args.side v _ _ _ (c.ranked_legs-leg-items.ensures.row v within rank) c.loop-leg-test.true in
-          partly_more H c.args.side old here new v c.args.weight _ _ r.0 c.state.result (c.loop-leg.invariant.weighing v within rank) r.1
-          c.state.ensures (marked_shows here new c.loop-leg.marks c.relax_marked.new.marks _ _ _ shows) c.relax_marked.ensures.touched
-          c.relax_marked.ensures.same;
+          partly_more H c.args.ends c.args.side old here new v c.args.weight _ _ r.0 c.state.result
+          (c.loop-leg.invariant.weighing v within rank) r.1
+          c.state.ensures (marked_shows c.args.ends.most here new c.loop-leg.marks c.relax_marked.new.marks _ _ _ shows)
+          c.relax_marked.ensures.touched;
       marks = λ v within rank.
           let r = read_leg H k c.args.side v _ _ _ (c.ranked_legs-leg-items.ensures.row v within rank) c.loop-leg-test.true in
-          marked_more H c.args.side old here new v c.args.weight _ _ r.0 c.state.result c.args.rank c.args.marks.now c.loop-leg.marks
+          marked_more H c.args.ends c.args.side old here new v c.args.weight _ _ r.0 c.state.result c.args.rank c.args.marks.now
+          c.loop-leg.marks
           c.relax_marked.new.marks rank c.requires.count (c.loop-leg.invariant.weighing v within rank)
           (c.loop-leg.invariant.marks v within rank) r.1 c.state.ensures shows;
     }
@@ -107,14 +109,14 @@ pub returns-clause-gone : goal.returns-clause-gone
 returns-clause-gone c =
     let H = c.args.hierarchy.now in
     let n = node_of_rank H c.ranked_legs-leg-items.ensures.levelled c.args.rank c.requires.rank in
-    partly_whole H c.args.side c.args.self.now c.loop-leg.self n.0 c.args.weight _ (c.loop-leg.invariant.weighing n.0 n.1 n.2)
+    partly_whole H c.args.ends c.args.side c.args.self.now c.loop-leg.self n.0 c.args.weight _ (c.loop-leg.invariant.weighing n.0 n.1 n.2)
     (read_whole H c.args.side n.0 _ _ (c.ranked_legs-leg-items.ensures.row n.0 n.1 n.2) c.loop-leg-test.false)
 
 pub returns-clause-marked : goal.returns-clause-marked
 returns-clause-marked c =
     let H = c.args.hierarchy.now in
     let n = node_of_rank H c.ranked_legs-leg-items.ensures.levelled c.args.rank c.requires.rank in
-    marked_whole H c.args.side c.args.self.now c.loop-leg.self n.0 c.args.weight c.args.marks.now c.loop-leg.marks _
+    marked_whole H c.args.ends c.args.side c.args.self.now c.loop-leg.self n.0 c.args.weight c.args.marks.now c.loop-leg.marks _
     (c.loop-leg.invariant.weighing n.0 n.1 n.2) (c.loop-leg.invariant.marks n.0 n.1 n.2)
     (read_whole H c.args.side n.0 _ _ (c.ranked_legs-leg-items.ensures.row n.0 n.1 n.2) c.loop-leg-test.false)
 

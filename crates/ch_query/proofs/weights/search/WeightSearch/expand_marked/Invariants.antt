@@ -9,8 +9,8 @@ use Rattle.ch_query.proofs.weights.search.WeightSearch.expand_marked.Given as go
 
 abbrev pub invariant-loop-leg : goal.invariant-loop-leg
 invariant-loop-leg l = record {
-  weighing : AtRank l.hierarchy l.rank (λ v. IsPartlyWeighed l.hierarchy l.side l.fn.self l.self v l.weight
+  weighing : AtRank l.hierarchy l.rank (λ v. IsPartlyWeighed l.hierarchy l.ends l.side l.fn.self l.self v l.weight
       (take l.leg-index (row (rows_of (weighed l.hierarchy) l.side) v)));
-  marks : AtRank l.hierarchy l.rank (λ v. IsPartlyMarked l.hierarchy l.side l.fn.self l.self v l.weight l.fn.marks l.marks
+  marks : AtRank l.hierarchy l.rank (λ v. IsPartlyMarked l.hierarchy l.ends l.side l.fn.self l.self v l.weight l.fn.marks l.marks
       (take l.leg-index (row (rows_of (weighed l.hierarchy) l.side) v)));
 }

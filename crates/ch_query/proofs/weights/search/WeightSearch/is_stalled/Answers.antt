@@ -25,7 +25,7 @@ index-requires c =
     let items = subst (λ (s : Side). c.ranked_legs-leg-items.result.now ≡ map (ranked_leg H) (row (rows_of H s) n.0))
     c.other.ensures (c.ranked_legs-leg-items.ensures.row n.0 n.1 n.2) in
     let r = read_leg H k _ n.0 _ _ _ items c.loop-leg-test.true in
-    let within = stall_within H c.args.side c.args.self.now n.0 c.args.weight w _ _ r.0 r.1 c.state.result c.state.ensures in
+    let within = stall_within H c.args.ends c.args.side c.args.self.now n.0 c.args.weight w _ _ r.0 r.1 c.state.result c.state.ensures in
     omega arith
 
 pub overflow_add-index : goal.overflow_add-index
@@ -37,7 +37,7 @@ overflow_add-index c =
     let items = subst (λ (s : Side). c.ranked_legs-leg-items.result.now ≡ map (ranked_leg H) (row (rows_of H s) n.0))
     c.other.ensures (c.ranked_legs-leg-items.ensures.row n.0 n.1 n.2) in
     let r = read_leg H k _ n.0 _ _ _ items c.loop-leg-test.true in
-    let small = stall_small H c.args.side c.args.self.now n.0 c.args.weight w _ _ r.0 r.1 c.state.result c.state.ensures
+    let small = stall_small H c.args.ends c.args.side c.args.self.now n.0 c.args.weight w _ _ r.0 r.1 c.state.result c.state.ensures
     c.index.result.now c.index.ensures in
     let light = read_light H k _ n.0 c.ranked_legs-leg-items.result.now c.loop-leg.leg-index
     record { rank = 0; arcs = 0; weight = 0 } items c.loop-leg-test.true in
@@ -50,6 +50,6 @@ returns-then-index-leg-clause-idle c _ v within rank =
     let items = subst (λ (s : Side). c.ranked_legs-leg-items.result.now ≡ map (ranked_leg H) (row (rows_of H s) v)) c.other.ensures
     (c.ranked_legs-leg-items.ensures.row v within rank) in
     let r = read_leg H k _ v _ _ _ items c.loop-leg-test.true in
-    stall_idle H c.args.side c.args.self.now v c.args.weight (c.requires.weighing v within rank) _ _ r.0 r.1 c.state.result
+    stall_idle H c.args.ends c.args.side c.args.self.now v c.args.weight (c.requires.weighing v within rank) _ _ r.0 r.1 c.state.result
     c.state.ensures c.index.result.now c.index.ensures
     c.if-index-leg.true

@@ -1,27 +1,23 @@
 -- Once no key is below the least sum, it is the least weight of going up and then down, or no node is reached from both.
-use Rattle.std.proofs.Common.{None, Some, ◌∙◌, arith}
+use Rattle.std.proofs.Common.{arith}
 use Rattle.ch_hierarchy.specs.Hierarchy.{nodes_of}
 use Rattle.ch_hierarchy.specs.declared.side.Side.TheVariants.{Up}
-use Rattle.ch_query.proofs.by_weight.WeighingEnds.{least_known, none_known, least_between}
+use Rattle.ch_query.proofs.by_weight.WeighingEnds.{least_known, none_known}
 use Rattle.ch_query.proofs.weights.search.WeightSearch.least_weight.Goals as goal
 
 pub returns-then-least-eq-UNREACHED-clause-least : goal.returns-then-least-eq-UNREACHED-clause-least
 returns-then-least-eq-UNREACHED-clause-least c =
-    let i = c.loop.invariant in
     let e = c.advance.ensures in
-    least_between c.args.hierarchy.now c.args.start c.args.end _ _ None (e.same.start ∙ i.start) (e.same.end ∙ i.end)
-    (none_known c.args.hierarchy.now c.requires.kept c.advance.new.self c.advance.new.least e.least (e.past c.loop-test.false)
-    c.if-least-eq-UNREACHED.true)
+    none_known c.args.hierarchy.now c.requires.kept _ c.advance.new.self c.advance.new.least e.least (e.past c.loop-ends-test.false)
+    c.if-least-eq-UNREACHED.true
 
 pub returns-clause-least : goal.returns-clause-least
 returns-clause-least c =
-    let i = c.loop.invariant in
     let e = c.advance.ensures in
     let small = e.least.small in
     let away = c.if-least-eq-UNREACHED.false in
-    least_between c.args.hierarchy.now c.args.start c.args.end _ _ (Some c.advance.new.least) (e.same.start ∙ i.start) (e.same.end ∙ i.end)
-    (least_known c.args.hierarchy.now c.requires.kept c.advance.new.self c.advance.new.least e.least (e.past c.loop-test.false)
-    (omega arith))
+    least_known c.args.hierarchy.now c.requires.kept _ c.advance.new.self c.advance.new.least e.least (e.past c.loop-ends-test.false)
+    (omega arith)
 
 pub returns-then-least-eq-UNREACHED-clause-clean : goal.returns-then-least-eq-UNREACHED-clause-clean
 returns-then-least-eq-UNREACHED-clause-clean c =
