@@ -65,8 +65,6 @@ MANY_STEPS = [
 
 LINE = re.compile(r"chtab: ([a-z ]+), (\d{1,3}(?:,\d{3})*) of (\d{1,3}(?:,\d{3})*) (files|pieces|nodes)(?:, about (\d+) (s|min|h) left)?")
 STEPS_OF = {"reading": "files", "building": "nodes"}
-# The stage that begins twice: before it looks at legs and arcs, and before its searches, which are pieces.
-TWICE = "checking the saved hierarchy"
 UNITS = {"s": 1, "min": 60, "h": 3_600}
 
 # How far a run is, as a line tells it: how many steps of a stage are done of all, and about how many seconds are left, with those of the unit.
@@ -112,10 +110,7 @@ def begins(events, place):
     beginning, and both tell of 0."""
     if place == 0 or events[place].stage != events[place - 1].stage:
         return True
-    if events[place].done > 0:
-        return False
-    is_second = place == 1 or events[place - 2].stage != events[place].stage
-    return events[place - 1].done > 0 or events[place].stage in STEPS_OF or events[place].stage == TWICE and is_second
+    return events[place].done == 0 and (events[place - 1].done > 0 or events[place].stage in STEPS_OF)
 
 
 def places_told(events, step, is_asked):

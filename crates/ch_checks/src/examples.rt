@@ -54,7 +54,7 @@ fn checked<R: Threads + Sync>(
     rt: &R,
     alloc: Global,
     graph: &Graph,
-    saved: &Saved,
+    saved: Saved,
 ) -> Result<Hierarchy, CheckError>
     ensures { IfOk result IsKeptForSome }
 {
@@ -73,8 +73,9 @@ pub(crate) fn hierarchy<R: Threads + Sync>(
     ensures { IfOk result IsKeptForSome }
 {
     let (graph, saved) = read(alloc, files)?;
-    match checked(rt, alloc, &graph, &saved) {
-        Ok(hierarchy) => Ok(hierarchy),
-        Err(_) => Ok(checked(rt, alloc, &graph, &saved)?),
+    if let Ok(hierarchy) = checked(rt, alloc, &graph, saved) {
+        return Ok(hierarchy);
     }
+    let (_, again) = read(alloc, files)?;
+    Ok(checked(rt, alloc, &graph, again)?)
 }

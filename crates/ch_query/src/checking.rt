@@ -41,28 +41,12 @@ use std::thread::Threads;
 /// as much, it searches from both ends. It takes O(k log k) steps for k nodes, arcs, legs and such pairs
 /// together, and the steps of these searches.
 ///
-/// # Errors
-/// The first fault of all seven kinds, or `NoMemory`. The graph and the saved hierarchy stay as they were.
-pub fn check<R: Threads + Sync, G: Gate>(
-    crew: &Crew<'_, R, G>,
-    graph: &Graph,
-    saved: &Saved,
-) -> Result<Hierarchy, CheckError>
-    ensures accepted { IsOkWhere result (IsFaultless graph.now saved.now) }
-    ensures hierarchy { IfOk result (NamesKept graph.now saved.now) }
-    ensures fault { (f : AnyFault) → AnswersWhere result (Err (CheckError.Fault f)) (IsFirstFault graph.now saved.now f) }
-{
-    let hierarchy = founded_by(crew, graph, saved)?;
-    covered(crew, hierarchy)
-}
-
-/// Like [`check`], and it reports to the gate when the check begins. The gate changes no answer.
-///
-/// The saved hierarchy is freed before the searches. So the memory for them is not needed beside it.
+/// It reports to the gate when it begins. The gate changes no answer. The saved hierarchy is freed before the
+/// searches, so the memory for them is not needed beside it.
 ///
 /// # Errors
 /// The first fault of all seven kinds, or `NoMemory`.
-pub fn check_watched<R: Threads + Sync, G: Gate>(
+pub fn check<R: Threads + Sync, G: Gate>(
     crew: &Crew<'_, R, G>,
     graph: &Graph,
     saved: Saved,

@@ -20,7 +20,7 @@
 //! with the exact least costs.
 //!
 //! [`check`] accepts a saved hierarchy of any origin exactly if it is right for the graph, and otherwise
-//! returns its first fault. [`check_watched`] does the same, and reports to a gate.
+//! returns its first fault.
 #![tactic(auto)]
 
 mod answer;
@@ -36,7 +36,7 @@ mod weights;
 pub use answer::one::{answer_one, answer_with_route};
 pub use answer::query_job::QueryJob;
 pub use answer::{Answer, answer_all, answer_all_in};
-pub use checking::{check, check_alone, check_watched};
+pub use checking::{check, check_alone};
 pub use routes::Route;
 pub use routes::ancestors::route_by_ancestors;
 pub use routes::query::route;

@@ -11,7 +11,7 @@ use super::leg_costs::is_leg_within;
 use crate::sides::Sides;
 use ch_graph::Cost;
 use ch_hierarchy::{Hierarchy, Leg};
-use ch_work::{Crew, Gate, Stage};
+use ch_work::{Crew, Gate};
 use std::alloc::{AllocError, Global};
 use std::thread::Threads;
 
@@ -106,9 +106,7 @@ pub(crate) fn first_uncovered<R: Threads + Sync, G: Gate>(
 ) -> Result<Option<u32>, AllocError>
     ensures { IfOk result (λ first. MatchOption first ((v : ℕ) → v < nodes_of hierarchy.now → IsCovered hierarchy.now v) (IsFirstUncovered hierarchy.now)) }
 {
-    let nodes = hierarchy.nodes();
-    crew.gate.watch(Stage::Checking, 0, crew.plan.pieces(nodes));
-    first_wrong(crew, nodes, &CoverCheck { hierarchy })
+    first_wrong(crew, hierarchy.nodes(), &CoverCheck { hierarchy })
 }
 
 /// Like [`first_uncovered`], by the caller alone.

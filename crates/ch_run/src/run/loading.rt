@@ -27,7 +27,7 @@ use ch_contract::{CheckError, Hierarchy, HopBound, Percent};
 use ch_graph::{Graph, Saved};
 use ch_job::Source;
 use ch_order::{LikeError, OrderError};
-use ch_query::check_watched;
+use ch_query::check;
 use ch_read::{NewWeights, read_order_by, read_saved_by};
 use ch_text::Input;
 use std::alloc::AllocError;
@@ -187,7 +187,7 @@ fn checked_from<R: Threads + Sync, S: Input, G: Gate>(
     ensures ends { IfErr result (EndsAt Which.Saved (reading S.read_gives saved.old saved.new) (IsSavedRefusedOn graph.now)) }
 {
     let saved = saved_from(crew, saved, graph)?;
-    match check_watched(crew, graph, saved) {
+    match check(crew, graph, saved) {
         Ok(hierarchy) => Ok(hierarchy),
         Err(CheckError::Fault(fault)) => Err(RunFault::Check(fault)),
         Err(CheckError::NoMemory) => Err(RunFault::Memory),

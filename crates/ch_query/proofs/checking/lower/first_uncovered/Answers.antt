@@ -3,4 +3,4 @@ use Rattle.ch_query.proofs.faults.Firsts.{nodes_named}
 use Rattle.ch_query.proofs.checking.lower.first_uncovered.Goals as goal
 
 pub returns : goal.returns
-returns g c = nodes_named c.args.hierarchy.now _ c.first_wrong.result c.nodes-nodes.ensures.nodes c.first_wrong.ensures
+returns g c = nodes_named c.args.hierarchy.now _ c.first_wrong.result c.nodes.ensures.nodes c.first_wrong.ensures
