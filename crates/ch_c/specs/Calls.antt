@@ -12,8 +12,8 @@ use Rattle.ch_engine.specs.declared.fault.OpenError.{OpenError}
 use Rattle.ch_engine.specs.declared.fault.Refusal.{Refusal}
 use Rattle.ch_engine.specs.declared.flows.Flowed.{Flowed}
 use Rattle.ch_engine.specs.Flows.{AreFlowsWritten, AreTableFlowsWritten}
-use Rattle.ch_rows.specs.declared.direction.Direction.{Direction}
-use Rattle.ch_rows.specs.declared.direction.Direction.TheVariants.{To, From}
+use Rattle.ch_hierarchy.specs.declared.direction.Direction.{Direction}
+use Rattle.ch_hierarchy.specs.declared.direction.Direction.TheVariants.{To, From}
 use Rattle.ch_engine.specs.declared.written.End.{End}
 use Rattle.ch_engine.specs.declared.written.RowsEnd.{RowsEnd}
 use Rattle.ch_engine.specs.declared.written.SumsEnd.{SumsEnd}

@@ -4,7 +4,7 @@ ghost use Rattle.ch_c.specs.Calls.{AreCellsAnswered, ArePlacesKept, AreRowsAnswe
 
 use crate::status::{NO_MEMORY, OK, SUM_TOO_LARGE, TOO_SHORT, status_of};
 use ch_engine::{End, Engine, RowsEnd, SumsEnd};
-use ch_rows::Direction;
+use ch_hierarchy::Direction;
 use std::alloc::Global;
 
 /// Returns the direction for a number: to the places for 0, and otherwise from them.

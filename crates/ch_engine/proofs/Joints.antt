@@ -23,9 +23,9 @@ use Rattle.ch_query.specs.Limits.{IsDistanceWithin}
 use Rattle.ch_query.specs.declared.routes.Route.{Route}
 use Rattle.ch_query.proofs.one_side.End.{least_reached}
 use Rattle.ch_query.proofs.one_side.TightNodes.{least_meeting_turned, sum_walk, tight_down, tight_up}
-use Rattle.ch_rows.specs.declared.direction.Direction.{Direction}
-use Rattle.ch_rows.specs.declared.direction.Direction.TheVariants.{To, From}
-use Rattle.ch_rows.specs.Direction.{facing, source_side, target_side}
+use Rattle.ch_hierarchy.specs.declared.direction.Direction.{Direction}
+use Rattle.ch_hierarchy.specs.declared.direction.Direction.TheVariants.{To, From}
+use Rattle.ch_hierarchy.specs.Direction.{facing, source_side, target_side}
 use Rattle.ch_rows.specs.Kept.{asked_by}
 use Rattle.ch_rows.specs.Near.{IsDistanceTo}
 use Rattle.ch_rows.specs.Searched.{Asked}

@@ -4,7 +4,7 @@ use Rattle.std.specs.Prelude.{MatchOption, ⊤}
 use Rattle.std.proofs.lemmas.Bool.{cases_lt}
 use Rattle.ch_hierarchy.specs.Hierarchy.{LevelsAndLegs}
 use Rattle.ch_rows.specs.Cells.{IsCellTo}
-use Rattle.ch_rows.specs.Direction.{facing}
+use Rattle.ch_hierarchy.specs.Direction.{facing}
 use Rattle.ch_rows.specs.Kept.{AreCellsOf}
 use Rattle.ch_rows.specs.Searched.{Asked}
 use Rattle.ch_engine.specs.Cells.{IsCell, IsWordOf, no_distance}

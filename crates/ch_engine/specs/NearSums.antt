@@ -1,9 +1,9 @@
 -- Near rows with sums: beside each pair the sum of the kept values along the route between the source and the place.
 use Rattle.std.specs.Prelude.{◌≡◌, ℕ, ◌+◌, ◌<◌, ◌≤◌, List, length, slice_index, slice_index_or, MatchOption, ⊤}
 use Rattle.ch_hierarchy.specs.Hierarchy.{nodes_of}
-use Rattle.ch_rows.specs.declared.direction.Direction.{Direction}
-use Rattle.ch_rows.specs.declared.direction.Direction.TheVariants.{To, From}
-use Rattle.ch_rows.specs.Direction.{facing}
+use Rattle.ch_hierarchy.specs.declared.direction.Direction.{Direction}
+use Rattle.ch_hierarchy.specs.declared.direction.Direction.TheVariants.{To, From}
+use Rattle.ch_hierarchy.specs.Direction.{facing}
 use Rattle.ch_rows.specs.Near.{IsDistanceTo}
 use Rattle.ch_rows.specs.Searched.{Asked}
 use Rattle.ch_engine.specs.declared.written.RowsEnd.{RowsEnd}

@@ -1,6 +1,6 @@
 -- Rows of a table over the kept places: for each source a word for each place, in the order of the places.
 use Rattle.std.specs.Prelude.{◌≡◌, ℕ, ◌+◌, ◌*◌, ◌<◌, ◌≤◌, List, length, slice_index, MatchOption, Option, None, Some, ⊤}
-use Rattle.ch_rows.specs.Direction.{facing}
+use Rattle.ch_hierarchy.specs.Direction.{facing}
 use Rattle.ch_rows.specs.Kept.{AreCellsOf, IsWhole}
 use Rattle.ch_rows.specs.Searched.{Asked}
 use Rattle.ch_engine.specs.declared.written.End.{End}

@@ -3,7 +3,7 @@ use Rattle.std.specs.Prelude.{◌≡◌, ◌≢◌, ℕ, ◌+◌, ◌^◌, ◌<�
 use Rattle.std.specs.Prelude.{MatchOption, Option, None, Some}
 use Rattle.ch_hierarchy.specs.Hierarchy.{LevelsAndLegs}
 use Rattle.ch_hierarchy.specs.declared.side.Side.{Side}
-use Rattle.ch_rows.specs.Direction.{source_side, target_side}
+use Rattle.ch_hierarchy.specs.Direction.{source_side, target_side}
 use Rattle.ch_engine.specs.declared.place_trees.PlaceTrees.{PlaceTrees}
 use Rattle.ch_engine.specs.declared.source_tree.Joint.{Joint}
 use Rattle.ch_engine.specs.declared.source_tree.SourceTree.{SourceTree}

@@ -12,7 +12,8 @@ use crate::sums::write_found;
 use crate::words::are_nodes;
 use crate::written::{End, Written};
 use ch_graph::limits::MOST_LISTED;
-use ch_rows::{Direction, KeptTargets};
+use ch_hierarchy::Direction;
+use ch_rows::KeptTargets;
 use std::alloc::{AllocError, Global};
 
 impl Engine {

@@ -1,7 +1,7 @@
 //! Near rows with the sums of the kept values along the routes of their pairs.
 ghost use Rattle.std.specs.Prelude.{◌≡◌, ◌<◌, length, IfErr, IfOk, MatchOption, OnOk, ⊤};
 ghost use Rattle.ch_hierarchy.specs.Hierarchy.{nodes_of};
-ghost use Rattle.ch_rows.specs.Direction.{source_side as the_source_side, target_side as the_target_side};
+ghost use Rattle.ch_hierarchy.specs.Direction.{source_side as the_source_side, target_side as the_target_side};
 ghost use Rattle.ch_engine.specs.Lines.{IsOfSome};
 ghost use Rattle.ch_engine.specs.NearRows.{IsKeptRow, StaysFrom, begin_of};
 ghost use Rattle.ch_engine.specs.NearSums.{AreNearSums, AreSummedRowsWritten, IsNearPair, IsNearSum, IsNearSumEnd, IsRowSumsEnd, KeepsNodes, ends_in as the_ends};
@@ -17,8 +17,7 @@ use crate::sum_trees::TreeRoom;
 use crate::sums::write_found;
 use crate::words::are_nodes;
 use crate::written::{RowsEnd, SummedRows};
-use ch_hierarchy::Side;
-use ch_rows::Direction;
+use ch_hierarchy::{Direction, Side};
 use std::alloc::{AllocError, Global};
 
 impl Engine {

@@ -3,8 +3,8 @@ use Rattle.ch_hierarchy.specs.Hierarchy.{LevelsAndLegs}
 use Rattle.ch_hierarchy.specs.declared.side.Side.{Side}
 use Rattle.ch_hierarchy.specs.declared.side.Side.TheVariants.{Up, Down}
 use Rattle.ch_hierarchy.specs.Side.{rows_of}
-use Rattle.ch_rows.specs.declared.direction.Direction.{Direction}
-use Rattle.ch_rows.specs.declared.direction.Direction.TheVariants.{To, From}
+use Rattle.ch_hierarchy.specs.declared.direction.Direction.{Direction}
+use Rattle.ch_hierarchy.specs.declared.direction.Direction.TheVariants.{To, From}
 
 -- the side of the searches from a source
 abbrev pub source_side : Direction → Side

@@ -3,6 +3,7 @@ pub mod Rows
 pub mod Hierarchy
 pub mod Ranked
 pub mod Side
+pub mod Direction
 pub mod Paths
 pub mod Kept
 pub mod Saved

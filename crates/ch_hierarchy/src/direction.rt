@@ -3,9 +3,11 @@ ghost use Rattle.std.specs.Prelude.{◌≡◌, ◌<◌, ℕ, map};
 ghost use Rattle.ch_hierarchy.specs.Hierarchy.{IsLevelled, nodes_of};
 ghost use Rattle.ch_hierarchy.specs.Ranked.{rank_of, ranked_leg};
 ghost use Rattle.ch_hierarchy.specs.Rows.{row};
-ghost use Rattle.ch_rows.specs.Direction.{facing, source_side, target_side};
+ghost use Rattle.ch_hierarchy.specs.Direction.{facing, source_side, target_side};
 
-use ch_hierarchy::{Hierarchy, RankedLeg, Side};
+use crate::hierarchy::Hierarchy;
+use crate::ranked::RankedLeg;
+use crate::side::Side;
 
 /// The direction of the distances of near rows.
 #[derive(Clone, Copy, Debug, PartialEq, Eq)]
@@ -18,7 +20,7 @@ pub enum Direction {
 
 impl Direction {
     /// The side of the searches from a source.
-    pub(crate) fn side(self) -> Side
+    pub fn side(self) -> Side
         ensures { result ≡ source_side self }
     {
         match self {
@@ -28,7 +30,7 @@ impl Direction {
     }
 
     /// The side of the searches from a target.
-    pub(crate) fn target_side(self) -> Side
+    pub fn target_side(self) -> Side
         ensures { result ≡ target_side self }
     {
         match self {
@@ -39,7 +41,7 @@ impl Direction {
 
     /// The legs by rank that distances go along from the node of this rank, or to it.
     #[inline]
-    pub(crate) fn ranked_legs(self, hierarchy: &Hierarchy, rank: u32) -> &[RankedLeg]
+    pub fn ranked_legs(self, hierarchy: &Hierarchy, rank: u32) -> &[RankedLeg]
         requires { rank < nodes_of hierarchy.now }
         ensures legs { (v : ℕ) → v < nodes_of hierarchy.now → rank_of hierarchy.now v ≡ rank → result.now ≡ map (ranked_leg (facing self hierarchy.now)) (row (facing self hierarchy.now).up v) }
         ensures levelled { IsLevelled hierarchy.now }

@@ -11,6 +11,7 @@
 #![tactic(auto)]
 
 mod assembling;
+mod direction;
 mod doubles;
 mod fault;
 mod hierarchy;
@@ -22,6 +23,7 @@ mod side;
 mod sorting;
 
 pub use assembling::{assemble, levels_of};
+pub use direction::Direction;
 pub use fault::{CheckError, CheckFault};
 pub use hierarchy::Hierarchy;
 pub use leg::Leg;

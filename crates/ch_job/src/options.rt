@@ -1,7 +1,7 @@
 //! The options of a run, and their limits.
 
 pub use ch_contract::{HopBound, OrderBy};
-pub use ch_rows::Direction;
+pub use ch_hierarchy::Direction;
 
 /// The options of a run: how it answers queries, and makes tables and near rows.
 #[derive(Clone, Copy, Debug, PartialEq, Eq)]

@@ -14,9 +14,9 @@ use Rattle.ch_query.specs.Distance.{IsKeptForSome}
 use Rattle.ch_query.specs.Limits.{IsWithin, IsDistanceWithin}
 use Rattle.ch_query.specs.SearchSpace.{IsRankedSpace}
 use Rattle.ch_query.proofs.one_side.TightNodes.{kept_turned, least_meeting_turned}
-use Rattle.ch_rows.specs.declared.direction.Direction.{Direction}
-use Rattle.ch_rows.specs.declared.direction.Direction.TheVariants.{To, From}
-use Rattle.ch_rows.specs.Direction.{source_side, target_side, facing}
+use Rattle.ch_hierarchy.specs.declared.direction.Direction.{Direction}
+use Rattle.ch_hierarchy.specs.declared.direction.Direction.TheVariants.{To, From}
+use Rattle.ch_hierarchy.specs.Direction.{source_side, target_side, facing}
 use Rattle.ch_rows.specs.Near.{IsDistanceIn}
 use Rattle.ch_rows.proofs.Distances.{least_of, of_least}
 

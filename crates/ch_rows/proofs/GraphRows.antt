@@ -7,8 +7,8 @@ use Rattle.ch_graph.specs.Graph.{Network, IsWithinLimits}
 use Rattle.ch_hierarchy.specs.Hierarchy.{LevelsAndLegs}
 use Rattle.ch_hierarchy.specs.Kept.{IsKept}
 use Rattle.ch_query.specs.Limits.{IsWithin, IsDistanceWithin}
-use Rattle.ch_rows.specs.declared.direction.Direction.{Direction}
-use Rattle.ch_rows.specs.Direction.{facing}
+use Rattle.ch_hierarchy.specs.declared.direction.Direction.{Direction}
+use Rattle.ch_hierarchy.specs.Direction.{facing}
 use Rattle.ch_rows.specs.First.{AreFirst}
 use Rattle.ch_rows.specs.Near.{IsDistanceTo, IsWalkTo, IsNearRow, IsNearestRow, IsWantedRow, Wanted}
 use Rattle.ch_rows.proofs.Distances.{least_of, of_least}

@@ -4,7 +4,7 @@ use Rattle.ch_hierarchy.specs.Hierarchy.{LevelsAndLegs, nodes_of}
 use Rattle.ch_query.specs.Limits.{IsWithin}
 use Rattle.ch_rows.specs.declared.kept.KeptTargets.{KeptTargets}
 use Rattle.ch_rows.specs.Cells.{AreCells}
-use Rattle.ch_rows.specs.Direction.{facing}
+use Rattle.ch_hierarchy.specs.Direction.{facing}
 use Rattle.ch_rows.specs.Near.{IsNearRow}
 use Rattle.ch_rows.specs.Offers.{AreUnoffered}
 use Rattle.ch_rows.specs.Searched.{Asked, AreSearched, asked_of, wanted_in}

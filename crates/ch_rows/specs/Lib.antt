@@ -2,7 +2,6 @@
 pub mod Buckets
 pub mod Cells
 pub mod Dealing
-pub mod Direction
 pub mod First
 pub mod Kept
 pub mod LeastSums

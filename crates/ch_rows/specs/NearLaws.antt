@@ -3,8 +3,8 @@ use Rattle.std.specs.Prelude.{◌≡◌, ℕ, List, Option}
 use Rattle.ch_graph.specs.Graph.{Network, IsWithinLimits}
 use Rattle.ch_hierarchy.specs.Hierarchy.{LevelsAndLegs}
 use Rattle.ch_hierarchy.specs.Kept.{IsKept}
-use Rattle.ch_rows.specs.declared.direction.Direction.{Direction}
-use Rattle.ch_rows.specs.Direction.{facing}
+use Rattle.ch_hierarchy.specs.declared.direction.Direction.{Direction}
+use Rattle.ch_hierarchy.specs.Direction.{facing}
 use Rattle.ch_rows.specs.Near.{IsNearRow, IsNearestRow}
 
 -- a near row of a hierarchy is a near row of each graph that the hierarchy is right for

@@ -1,10 +1,10 @@
 -- Targets that were searched from.
 use Rattle.std.specs.Prelude.{ℕ, List, Option}
 use Rattle.ch_hierarchy.specs.Hierarchy.{LevelsAndLegs}
-use Rattle.ch_rows.specs.declared.direction.Direction.{Direction}
+use Rattle.ch_hierarchy.specs.declared.direction.Direction.{Direction}
 use Rattle.ch_rows.specs.declared.searched.Searched.{Searched}
 use Rattle.ch_rows.specs.Buckets.{HoldNearest}
-use Rattle.ch_rows.specs.Direction.{facing}
+use Rattle.ch_hierarchy.specs.Direction.{facing}
 use Rattle.ch_rows.specs.Near.{Wanted}
 
 -- what near rows are asked for, in whichever hierarchy: in which direction, to which targets, within which limit, and how many at most

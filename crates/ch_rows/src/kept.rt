@@ -5,12 +5,11 @@ ghost use Rattle.ch_hierarchy.specs.Hierarchy.{nodes_of};
 ghost use Rattle.ch_query.specs.Distance.{IsKeptForSome};
 ghost use Rattle.ch_rows.specs.Kept.{AreCellsOf, AreKeptIn, IsRowOf, IsWhole, asked_by};
 
-use crate::direction::Direction;
 use crate::rows::{NearRoom, Nearest};
 use crate::searched::Searched;
 use crate::spaces::spaces_alone;
 use ch_graph::Rows;
-use ch_hierarchy::Hierarchy;
+use ch_hierarchy::{Direction, Hierarchy};
 use std::alloc::{AllocError, Global};
 
 /// Targets that were searched from, kept apart from their hierarchy: a caller lends the same one with each question. One

@@ -22,7 +22,6 @@ mod by_cells;
 mod by_rows;
 mod cells;
 mod dealing;
-mod direction;
 mod first;
 mod kept;
 pub mod laws;
@@ -39,7 +38,6 @@ mod sweep;
 
 pub use buckets::Buckets;
 pub use cells::Table;
-pub use direction::Direction;
 pub use kept::KeptTargets;
 pub use many_to_many::{gather_rows, table};
 pub use nearest::NearTargets;

@@ -4,15 +4,14 @@ ghost use Rattle.ch_graph.specs.declared.limits.TheConstants.{MOST_LISTED};
 ghost use Rattle.ch_hierarchy.specs.Hierarchy.{nodes_of};
 ghost use Rattle.ch_query.specs.Distance.{IsKeptForSome};
 ghost use Rattle.ch_query.specs.Limits.{IsWithin};
-ghost use Rattle.ch_rows.specs.Direction.{facing};
+ghost use Rattle.ch_hierarchy.specs.Direction.{facing};
 ghost use Rattle.ch_rows.specs.Near.{IsNearRow};
 ghost use Rattle.ch_rows.specs.Rooms.{IsNearRoomFor};
 
-use crate::direction::Direction;
 use crate::rows::{NearRoom, Nearest};
 use crate::searched::Searched;
 use crate::spaces::search_targets;
-use ch_hierarchy::Hierarchy;
+use ch_hierarchy::{Direction, Hierarchy};
 use ch_work::{Crew, Gate};
 use std::alloc::{AllocError, Global};
 use std::marker::Model;

@@ -5,13 +5,12 @@ ghost use Rattle.ch_graph.specs.declared.limits.TheConstants.{MOST_LISTED};
 ghost use Rattle.ch_hierarchy.specs.declared.side.Side.TheVariants.{Down};
 ghost use Rattle.ch_query.specs.Distance.{IsKeptForSome};
 ghost use Rattle.ch_query.specs.SearchSpace.{IsRankedSpace};
-ghost use Rattle.ch_rows.specs.Direction.{facing};
+ghost use Rattle.ch_hierarchy.specs.Direction.{facing};
 ghost use Rattle.ch_rows.specs.Searched.{AreSearched, asked_of};
 
-use crate::direction::Direction;
 use crate::first::buckets_of;
 use ch_graph::Rows;
-use ch_hierarchy::Hierarchy;
+use ch_hierarchy::{Direction, Hierarchy};
 use std::alloc::{AllocError, Global};
 
 /// Targets that were searched from in a hierarchy, which is not kept here, and what is asked of the rows to them.

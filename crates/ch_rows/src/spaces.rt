@@ -7,11 +7,10 @@ ghost use Rattle.ch_hierarchy.specs.declared.side.Side.TheVariants.{Down};
 ghost use Rattle.ch_query.specs.Distance.{IsKeptForSome};
 ghost use Rattle.ch_query.specs.SearchSpace.{IsRankedSpace};
 ghost use Rattle.ch_rows.specs.Buckets.{AreRanksApart, HoldLists};
-ghost use Rattle.ch_rows.specs.Direction.{facing};
+ghost use Rattle.ch_hierarchy.specs.Direction.{facing};
 
-use crate::direction::Direction;
 use ch_graph::{Rows, gather};
-use ch_hierarchy::Hierarchy;
+use ch_hierarchy::{Direction, Hierarchy};
 use ch_query::{Scratch, ranked_spaces, ranked_spaces_alone};
 use ch_work::{Crew, Gate};
 use std::alloc::{AllocError, Global};

@@ -9,9 +9,9 @@ use Rattle.std.proofs.lemmas.List.Elements.{All-take}
 use Rattle.ch_graph.specs.Graph.{Network, IsWithinLimits}
 use Rattle.ch_hierarchy.specs.Kept.{IsKept}
 use Rattle.ch_rows.proofs.GraphRows.{row_of_graph}
-use Rattle.ch_rows.specs.Direction.{facing}
+use Rattle.ch_hierarchy.specs.Direction.{facing}
 use Rattle.ch_hierarchy.specs.Hierarchy.{LevelsAndLegs}
-use Rattle.ch_rows.specs.declared.direction.Direction.{Direction}
+use Rattle.ch_hierarchy.specs.declared.direction.Direction.{Direction}
 use Rattle.ch_rows.specs.Near.{IsNearRow, IsNearestRow, Wanted, wanted_within}
 use Rattle.ch_read.specs.declared.request.Request.{Request}
 use Rattle.ch_read.specs.RequestLists.{PlaceList}

@@ -10,7 +10,7 @@ use Rattle.ch_hierarchy.specs.Hierarchy.{LevelsAndLegs, nodes_of}
 use Rattle.ch_hierarchy.specs.Kept.{IsKept}
 use Rattle.ch_query.specs.declared.answer.Answer.{Answer}
 use Rattle.ch_query.specs.Replies.{IsReply}
-use Rattle.ch_rows.specs.Direction.{facing}
+use Rattle.ch_hierarchy.specs.Direction.{facing}
 use Rattle.ch_rows.specs.Near.{Wanted, IsNearRow, IsNearestRow}
 use Rattle.ch_rows.proofs.GraphRows.{row_of_graph}
 use Rattle.ch_job.specs.declared.options.Options.{Options}

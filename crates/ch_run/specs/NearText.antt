@@ -1,7 +1,7 @@
 -- The text of near rows.
 use Rattle.std.specs.Prelude.{ℕ, List, Option}
 use Rattle.ch_graph.specs.Graph.{Network}
-use Rattle.ch_rows.specs.declared.direction.Direction.{Direction}
+use Rattle.ch_hierarchy.specs.declared.direction.Direction.{Direction}
 use Rattle.ch_rows.specs.Near.{IsNearestRow}
 use Rattle.ch_text.specs.NearText.{near_row_text}
 use Rattle.ch_text.specs.RowTexts.{HasRows}

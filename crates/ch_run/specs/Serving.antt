@@ -2,8 +2,8 @@
 use Rattle.std.specs.Prelude.{◌≡◌, ℕ, ◌+◌, ◌<◌, ◌≤◌, Bool, true, false, if◌then◌else◌, List, [], ◌∷◌, ◌++◌, length, take, map, All}
 use Rattle.std.specs.Prelude.{Option, Some, None, is_some, Result, Ok, Err, MatchOption, MatchResult, ⊤}
 use Rattle.ch_hierarchy.specs.Hierarchy.{nodes_of}
-use Rattle.ch_rows.specs.declared.direction.Direction.{Direction}
-use Rattle.ch_rows.specs.Direction.{facing}
+use Rattle.ch_hierarchy.specs.declared.direction.Direction.{Direction}
+use Rattle.ch_hierarchy.specs.Direction.{facing}
 use Rattle.ch_rows.specs.Near.{Wanted}
 use Rattle.ch_read.specs.declared.request.Asked.{Asked}
 use Rattle.ch_read.specs.declared.request.Asked.TheVariants.{Weights}

@@ -19,7 +19,7 @@ use Rattle.ch_work.specs.Plan.{Division}
 use Rattle.ch_words.specs.declared.fault.LineFault.{LineFault}
 use Rattle.std.specs.declared.alloc.Global.{Global}
 use Rattle.ch_contract.specs.declared.measure.OrderBy.{OrderBy}
-use Rattle.ch_rows.specs.declared.direction.Direction.{Direction}
+use Rattle.ch_hierarchy.specs.declared.direction.Direction.{Direction}
 use Rattle.ch_job.specs.Job.{IsAllowed as IsJobAllowed}
 use Rattle.ch_job.specs.declared.job.Question.{Question}
 use Rattle.ch_job.specs.declared.options.Options.{Options}

@@ -1,6 +1,6 @@
 //! The words of the command line, and the line that they give: what the program is asked for.
 //!
-//! It stands on ch_contract, ch_graph, ch_job, ch_rows, ch_work, clap and thiserror. Proved of [`read_words`]:
+//! It stands on ch_contract, ch_graph, ch_hierarchy, ch_job, ch_work, clap and thiserror. Proved of [`read_words`]:
 //!
 //! - A line has the job that the words name, with the values that clap matches to the tool's arguments.
 //!   Each number is within its limits.

@@ -5,7 +5,7 @@ use Rattle.std.specs.Arc.{arc_value}
 use Rattle.std.proofs.lemmas.List.{get_or_read}
 use Rattle.ch_hierarchy.specs.Hierarchy.{LevelsAndLegs}
 use Rattle.ch_hierarchy.specs.declared.side.Side.{Side}
-use Rattle.ch_rows.specs.Direction.{target_side}
+use Rattle.ch_hierarchy.specs.Direction.{target_side}
 use Rattle.ch_rows.specs.Kept.{asked_by}
 use Rattle.ch_engine.specs.declared.leg_sums.KeptSums.{KeptSums}
 use Rattle.ch_engine.specs.declared.place_trees.PlaceTrees.{PlaceTrees}

@@ -4,7 +4,7 @@ use Rattle.std.specs.Prelude.{slice_index_or}
 use Rattle.ch_hierarchy.proofs.code.Ranked.{node_of_rank}
 use Rattle.ch_query.proofs.by_weight.LoweredWords.{lowered_then}
 use Rattle.ch_rows.specs.Buckets.{IsBucketAmong}
-use Rattle.ch_rows.specs.Direction.{facing}
+use Rattle.ch_hierarchy.specs.Direction.{facing}
 use Rattle.ch_rows.specs.Near.{Wanted}
 use Rattle.ch_rows.specs.Offers.{AreUnoffered, AreOffered}
 use Rattle.ch_rows.specs.Sums.{IsSum, IsSumOf}

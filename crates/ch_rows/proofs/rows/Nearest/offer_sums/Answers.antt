@@ -3,7 +3,7 @@ use Rattle.std.proofs.Common.{[], length, sym, subst}
 use Rattle.std.specs.Prelude.{slice_index_or}
 use Rattle.ch_query.specs.SearchSpace.{IsRankedSpace}
 use Rattle.ch_rows.specs.Buckets.{IsBucketAmong}
-use Rattle.ch_rows.specs.Direction.{facing}
+use Rattle.ch_hierarchy.specs.Direction.{facing}
 use Rattle.ch_rows.specs.LeastSums.{AreLeastSums}
 use Rattle.ch_rows.specs.Near.{Wanted}
 use Rattle.ch_rows.specs.Offers.{AreUnoffered}

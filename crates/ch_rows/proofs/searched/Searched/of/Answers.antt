@@ -2,7 +2,7 @@
 use Rattle.std.proofs.Common.{sym, subst}
 use Rattle.ch_hierarchy.specs.declared.side.Side.TheVariants.{Down}
 use Rattle.ch_rows.specs.Buckets.{HoldFirst, HoldNearest}
-use Rattle.ch_rows.specs.Direction.{facing}
+use Rattle.ch_hierarchy.specs.Direction.{facing}
 use Rattle.ch_rows.proofs.Facing.{kept_facing}
 use Rattle.ch_rows.proofs.HeldSpaces.{spaces_apart, spaces_few, spaces_held, spaces_within}
 use Rattle.ch_rows.proofs.searched.Searched.of.Goals as goal
