@@ -1,5 +1,4 @@
 //! Hierarchies that are built. The tests compare their texts, as `chtab save` writes them.
-ghost use Rattle.std.specs.Prelude.{◌≡◌, IfOk};
 
 mod like;
 mod remaining;

@@ -4,7 +4,6 @@ ghost use Rattle.ch_custom.specs.Customizing.{IsTopology};
 ghost use Rattle.ch_custom.specs.Topologies.{IsCustomized};
 ghost use Rattle.ch_hierarchy.specs.Hierarchy.{nodes_of};
 ghost use Rattle.ch_hierarchy.specs.Kept.{IsKept};
-ghost use Rattle.ch_query.specs.Distance.{IsKeptForSome};
 ghost use Rattle.ch_tree.specs.Tree.{IsTree};
 
 use crate::again::{again, again_after};

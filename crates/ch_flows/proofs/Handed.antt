@@ -99,12 +99,6 @@ excess_second parts are flows long place low halves is once eo passed =
           omega (arith, part, first, whole),
     )
 
--- flows that count as much are too large together
-pub excess_kept : (parts : List (Option Halves)) (flows old : List ℕ) → ((share : ℕ → ℕ) → AreShares parts share →
-    weighed share flows ≡ weighed share old) →
-    IsExcess parts flows → IsExcess parts old
-excess_kept parts flows old kept e = (e.0, e.1, e.2, e.3, λ share shares. omega (arith, e.4 share shares, kept share shares))
-
 -- once no leg that stands for two has some left, an arc has what all legs had for it
 pub handed_down : (parts : List (Option Halves)) (flows old : List ℕ) → length flows ≡ length parts →
     ((share : ℕ → ℕ) → AreShares parts share → weighed share flows ≡ weighed share old) →

@@ -126,13 +126,3 @@ module _ (H : LevelsAndLegs) (levelled : IsLevelled H) (starts new_starts : List
     found = found_new;
     order = order_new;
   }
-
--- no legs
-pub laid_none : (H : LevelsAndLegs) → IsLaid H [] [] 0
-laid_none H = record {
-  count = refl;
-  within = λ side v k spot. absurd (omega (arith, spot.state));
-  each = λ side v k spot. absurd (omega (arith, spot.state));
-  found = λ i low. absurd (omega (arith, low));
-  order = λ side v k r spot after low. absurd (omega (arith, low));
-}

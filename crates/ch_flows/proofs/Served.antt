@@ -11,13 +11,6 @@ use Rattle.ch_flows.specs.declared.plan.Link.{Link}
 use Rattle.ch_flows.specs.Flows.{AreServed, IsAnswer, arcs_of, missing, without_route}
 use Rattle.ch_flows.specs.Plans.{AreCounted, AreCountedBy, IsPairAt, IsTally, IsTallyBy, IsWay}
 
-pub served_none : (H : LevelsAndLegs) (sources targets demands : List ℕ) → AreServed H sources targets demands 0 []
-served_none H sources targets demands = record {
-  long = refl;
-  demand = λ i low. absurd (omega (arith, low));
-  route = λ i low. absurd (omega (arith, low));
-}
-
 pub served_more : (H : LevelsAndLegs) (sources targets demands : List ℕ) (n : ℕ) (served : List (ℕ × Option Route)) (demand : ℕ)
     (answer : Option Route) →
     AreServed H sources targets demands n served → demand ≡ get_or demands n 0 →

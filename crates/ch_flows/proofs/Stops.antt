@@ -183,9 +183,3 @@ module _ (ups : List (ℕ × Mark)) (lists : List (List (ℕ × Mark))) (n node 
         (ap (λ (p : ℕ × Mark). p.0) (get_or_default stops stop.0 (0, no_mark) (c, e.1) stop.1 ∙ stop.2)))
         (get_or meetings c Meeting.Unknown) unseen.1)
   ]
-
--- before the first entry nothing is met
-pub met_nowhere : (ups : List (ℕ × Mark)) (lists : List (List (ℕ × Mark))) (meetings : List Meeting) →
-    ((c : ℕ) → c < length lists → get_or meetings c Meeting.Unknown ≡ Meeting.Nowhere) → AreMeetings ups lists 0 meetings
-met_nowhere ups lists meetings none c inside =
-    subst (IsMeetingSoFar ups (list_at lists c) 0) (sym (none c inside)) (λ i j shared. absurd (let low = shared.0 in omega (arith, low)))

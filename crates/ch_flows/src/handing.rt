@@ -1,6 +1,6 @@
 //! Demands added to legs, and handed down to the arcs that the legs stand for.
-ghost use Rattle.std.specs.Prelude.{◌≡◌, ◌+◌, ◌*◌, ◌<◌, ◌≤◌, ℕ, length, slice_index, slice_set, IfErr, OnOk, OnErr, Some, All};
-ghost use Rattle.ch_flows.specs.Handing.{AreParts, AreShares, IsCount, IsExcess, IsExcessAlong, IsHanded, IsPassed, part_at, shares_of, weighed};
+ghost use Rattle.std.specs.Prelude.{◌≡◌, ◌+◌, ◌*◌, ◌<◌, ℕ, length, slice_index, slice_set, OnOk, OnErr, Some, All};
+ghost use Rattle.ch_flows.specs.Handing.{AreParts, IsCount, IsExcess, IsExcessAlong, IsHanded, IsPassed, shares_of, weighed};
 
 /// The greatest flow of an arc: 2^63.
 pub const MOST_FLOW: u64 = 1 << 63;

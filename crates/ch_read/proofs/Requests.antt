@@ -7,7 +7,7 @@ use Rattle.std.specs.List.{position, position_or_len}
 use Rattle.std.proofs.lemmas.Bool.{and_parts}
 use Rattle.std.proofs.lemmas.Bool.Decides.{nat_tests}
 use Rattle.std.proofs.lemmas.Option.{cond_some}
-use Rattle.std.proofs.lemmas.List.{get_or_append_left, append-nil, append_assoc, length_push, length-append, take_rest}
+use Rattle.std.proofs.lemmas.List.{get_or_append_left, append-nil, length_push, length-append, take_rest}
 use Rattle.std.proofs.lemmas.List.{take-append-le, drop-append-le, drop_all}
 use Rattle.std.proofs.lemmas.List.Elements.{All-append, All-take, All-drop}
 use Rattle.ch_read.specs.declared.begun.Purpose.{Purpose}
@@ -21,7 +21,7 @@ use Rattle.ch_read.specs.declared.request_fault.RequestError.{RequestError}
 use Rattle.ch_read.specs.declared.request_fault.RequestError.TheVariants.{Fault, NoMemory}
 use Rattle.ch_read.specs.Words.{lines, words}
 use Rattle.ch_read.specs.Requests.{Begun, Made, Told, Standing, wanted, is_whole, nothing, settled, with_node, asked_by}
-use Rattle.ch_read.specs.Requests.{asked_of, none_made, at_most_one, made, told, ahead, after_these, stopping, line_after}
+use Rattle.ch_read.specs.Requests.{asked_of, none_made, at_most_one, made, told, after_these, stopping, line_after}
 use Rattle.ch_read.specs.Requests.{text_fault, Gives, IsErrorAhead, IsAsked, IsGiven, IsNewWeight, IsStopped, AreTwoLists, with_weight}
 use Rattle.ch_read.specs.RequestSteps.{HasNoLine, IsBegun, IsOf, IsLineAhead, IsLineError, Makes, advanced}
 use Rattle.std.proofs.lemmas.List.Sums.{fails_before_first}
@@ -184,13 +184,6 @@ module _ (n line : ℕ) (begun : Begun) (text : List ℕ) (more : List (List ℕ
   pub line_faulty : (fault : RequestFault) → text_fault n (line_after line) begun text ≡ Some fault →
       told n line begun (text ∷ more) ≡ stopping (Some fault)
   line_faulty fault e = ap after_line e
-
--- the requests that were given and those that are given next
-pub gives_more : (ended : Bool) (a b c : Standing) (xs ys : List Asked) → Gives ended a b xs → Gives ended b c ys →
-    Gives ended a c (xs ++ ys)
-gives_more ended a b c xs ys first next more comes =
-    first more comes ∙ ap (after_these xs) (next more comes)
-    ∙ (λ i. record { given = sym (append_assoc xs ys (ahead c more).given) i; fault = (ahead c more).fault })
 
 pub feed_within : (xs : List ℕ) (i : ℕ) → position (λ b. eqb b 10) xs ≡ Some i → i < length xs
 feed_within xs i e = (found_and_more (λ b. eqb b 10) xs [] i e).0

@@ -69,20 +69,6 @@ chosen P decide (suc m) = at (decide m) (chosen P decide m)
       ],
     )
 
--- whether all numbers below m have P is decided
-pub all_below : (P : ℕ → Type 0) → ((x : ℕ) → P x ⊎ (P x → ⊥)) → (m : ℕ) → ((x : ℕ) → x < m → P x) ⊎ ((x : ℕ) × (x < m) × (P x → ⊥))
-all_below P decide zero = inl (λ x lt. absurd (omega arith))
-all_below P decide (suc m) = at (decide m) (all_below P decide m)
-  where
-    at : P m ⊎ (P m → ⊥) → ((x : ℕ) → x < m → P x) ⊎ ((x : ℕ) × (x < m) × (P x → ⊥)) →
-        ((x : ℕ) → x < suc m → P x) ⊎ ((x : ℕ) × (x < suc m) × (P x → ⊥))
-    at (inr away) rest = inr (m, omega arith, away)
-    at (inl is) (inr bad) = inr (bad.0, omega (arith, bad.1), bad.2)
-    at (inl is) (inl good) = inl (λ x lt. elim (cases_eq x m) [
-      | inl e ↦ subst P (sym e) is
-      | inr ne ↦ good x (omega arith)
-    ])
-
 -- there is a row of the legs of a node at nodes below m
 row_below : (f : ℕ → Option Label) (m : ℕ) →
     (legs : List Leg) × IsRow legs × ((l : Leg) → Contains legs l → (l.node < m) × (f l.node ≡ Some (label_of l)))

@@ -2,9 +2,8 @@
 //!
 //! A neighbour is near a node if each of its other legs weighs more than twice as much as its leg to the node. So a leaf is near its only
 //! neighbour. Two near neighbours have a shortcut, because each chain between them that avoids the node weighs more.
-ghost use Rattle.std.specs.Prelude.{◌≡◌, ◌≢◌, ℕ, ◌+◌, ◌*◌, ◌<◌, ◌≤◌, if◌then◌else◌, All, IfSome, IsTrue};
+ghost use Rattle.std.specs.Prelude.{◌≢◌, ℕ, ◌+◌, ◌*◌, ◌<◌, ◌≤◌, if◌then◌else◌, All, IfSome, IsTrue};
 ghost use Rattle.ch_graph.specs.declared.limits.TheConstants.{MOST_WEIGHT};
-ghost use Rattle.ch_contract.specs.Legs.{AreLegsWithin};
 ghost use Rattle.ch_contract.specs.LegRows.{AreLegsFrom, AreLegsTo};
 ghost use Rattle.ch_contract.specs.Measures.{IsMeasureUpTo};
 ghost use Rattle.ch_contract.specs.Near.{AreNear, seen_from};

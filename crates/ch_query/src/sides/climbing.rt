@@ -1,14 +1,11 @@
 //! Searches without a queue: they take the legs of the ancestors of the source, from the lowest to the highest.
-ghost use Rattle.std.specs.Prelude.{◌≡◌, ◌+◌, ◌^◌, ◌<◌, ◌≤◌, ℕ, List, length, slice_index, slice_set, Some, MatchOption, All};
+ghost use Rattle.std.specs.Prelude.{◌≡◌, ◌+◌, ◌^◌, ◌<◌, ◌≤◌, ℕ, List, length, slice_set, Some, MatchOption, All};
 ghost use Rattle.ch_graph.specs.declared.limits.TheConstants.{MOST_WEIGHT};
-ghost use Rattle.ch_graph.specs.Cost.{cost_at};
-ghost use Rattle.ch_hierarchy.specs.Hierarchy.{nodes_of, IsLevelled};
+ghost use Rattle.ch_hierarchy.specs.Hierarchy.{nodes_of};
 ghost use Rattle.ch_hierarchy.specs.Paths.{IsMeet, NeverMeets};
-ghost use Rattle.ch_hierarchy.specs.Ranked.{rank_of};
 ghost use Rattle.ch_hierarchy.specs.declared.side.Side.{Side as AnySide};
 ghost use Rattle.ch_hierarchy.specs.declared.side.Side.TheVariants.{Up, Down};
 ghost use Rattle.ch_query.specs.declared.question.Question.{Question as AnyQuestion};
-ghost use Rattle.ch_query.specs.ByNode.{costs_of};
 ghost use Rattle.ch_query.specs.Climbs.{AreAncestors, IsClimbing, IsUnqueued, Takes};
 ghost use Rattle.ch_query.specs.Distance.{IsKeptForSome};
 ghost use Rattle.ch_query.specs.Meeting.{AreMeeting};

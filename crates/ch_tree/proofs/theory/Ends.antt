@@ -25,7 +25,7 @@ use Rattle.ch_query.proofs.one_side.WeighedPaths.{weighed_levelled}
 use Rattle.ch_query.proofs.by_weight.Known.{reached_cost, known_whole, known_at}
 use Rattle.ch_query.proofs.two_sides.WeighedSearches.{weighed_least}
 use Rattle.ch_tree.specs.declared.sweep.TheConstants.{NEVER}
-use Rattle.ch_tree.specs.Tree.{place_of, IsAbove, AreCommonAbove, weight_at, IsSweptTo, IsLeastSum}
+use Rattle.ch_tree.specs.Tree.{place_of, AreCommonAbove, weight_at, IsSweptTo, IsLeastSum}
 
 -- the weights by rank as costs by node
 abbrev costs_by_node : LevelsAndLegs → List ℕ → List (Option Cost)
@@ -38,10 +38,6 @@ late_cost bound w = if nat_lt w bound then None else known_cost w
 -- the nodes whose legs may be left out, with their keys
 abbrev late_keys : LevelsAndLegs → ℕ → List ℕ → List (Option Cost)
 late_keys H bound costs = by_node H (map (late_cost bound) costs) None
-
--- a weight less than the bound has no key
-late_none : (bound w : ℕ) → w < bound → late_cost bound w ≡ None
-late_none bound w lt = let e : nat_lt w bound ≡ true = grind (arith, nat_tests) in rw e refl
 
 -- a key is a known weight that is not less than the bound
 late_some : (bound w : ℕ) (c : Cost) → late_cost bound w ≡ Some c → (bound ≤ w) × (known_cost w ≡ Some c)

@@ -1,5 +1,5 @@
 -- Weights that are offered one after the other.
-use Rattle.std.proofs.Common.{◌≡◌, ℕ, ◌+◌, ◌<◌, ◌≤◌, List, [], ◌∷◌, ◌++◌, length, take, set, get_or, length-set, Contains, refl, sym, ◌∙◌}
+use Rattle.std.proofs.Common.{◌≡◌, ℕ, ◌+◌, ◌<◌, ◌≤◌, List, [], ◌∷◌, ◌++◌, length, take, set, get_or, length-set, Contains, sym, ◌∙◌}
 use Rattle.std.proofs.Common.{ap, subst, arith, inl, inr}
 use Rattle.std.proofs.Common.{get_or-set_same, get_or-set_other}
 use Rattle.std.proofs.lemmas.Bool.{cases_eq}
@@ -9,16 +9,6 @@ use Rattle.ch_graph.specs.declared.limits.TheConstants.{MOST_WEIGHT}
 use Rattle.ch_hierarchy.specs.declared.ranked.RankedLeg.{RankedLeg}
 use Rattle.ch_tree.specs.declared.sweep.TheConstants.{NEVER}
 use Rattle.ch_tree.specs.Tree.{weight_at, IsOffered, AreOffered}
-
--- no leg was offered yet
-pub offered_none : (weight : ℕ) (legs : List RankedLeg) (costs : List ℕ) → ((l : RankedLeg) → Contains legs l → ⊥) →
-    AreOffered weight legs costs costs
-offered_none weight legs costs none = record {
-  size = refl;
-  less = λ x. omega arith;
-  from = λ x. inl refl;
-  taken = λ l has. absurd (none l has);
-}
 
 module _ (weight : ℕ) (legs : List RankedLeg) (old mid : List ℕ) (are : AreOffered weight legs old mid) (l : RankedLeg)
     (low : l.rank < length mid) where

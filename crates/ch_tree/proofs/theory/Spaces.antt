@@ -5,7 +5,6 @@ use Rattle.std.specs.Prelude.{◌≢◌, AllPairs, slice_index}
 use Rattle.std.proofs.lemmas.Bool.{cases_lt}
 use Rattle.std.proofs.lemmas.List.Elements.{Contains-append_cases, Contains-get_or}
 use Rattle.ch_graph.specs.declared.cost.Cost.{Cost}
-use Rattle.ch_graph.specs.declared.limits.TheConstants.{MOST_WEIGHT}
 use Rattle.ch_graph.specs.Cost.{IsAtMost}
 use Rattle.ch_graph.proofs.CostOrder.{IsAtMost_refl}
 use Rattle.ch_graph.proofs.CostSums.{cost_sum-no_cost}
@@ -21,14 +20,13 @@ use Rattle.ch_hierarchy.specs.Side.{rows_of, other}
 use Rattle.ch_hierarchy.specs.Paths.{IsUpwardPath, path_cost, IsLeastUpwardPath}
 use Rattle.ch_hierarchy.proofs.code.Ranked.{node_of_rank, rank_below}
 use Rattle.ch_query.specs.Distance.{IsKeptForSome}
-use Rattle.ch_query.specs.Limits.{IsMost, IsWithin}
+use Rattle.ch_query.specs.Limits.{IsMost}
 use Rattle.ch_query.specs.SearchSpace.{IsTight, IsRankedSpace}
 use Rattle.ch_query.specs.Weighed.{weighed_cost, weighed_leg}
 use Rattle.ch_query.specs.Weights.{weight_cost}
 use Rattle.ch_query.proofs.one_side.Expanding.{leg_up}
 use Rattle.ch_query.proofs.by_weight.LegsRead.{read_leg}
 use Rattle.ch_query.proofs.one_side.WeighedPaths.{weighed_avoids, weighed_row}
-use Rattle.ch_tree.specs.declared.sweep.TheConstants.{NEVER}
 use Rattle.ch_tree.specs.Spaces.{AreEntries, AreGathered, AreGatheredTo, IsBeaten, IsBeatenAt}
 use Rattle.ch_tree.specs.Tree.{place_of, IsAbove, AreFalling, weight_at, AreUpCosts, IsSweptTo}
 use Rattle.ch_tree.proofs.theory.Climbs.{above_itself, above_then, above_one, above_next, above_low, above_between}

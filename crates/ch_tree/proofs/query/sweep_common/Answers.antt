@@ -1,12 +1,11 @@
 -- One more sum, and the legs of one more place are taken on both sides.
-use Rattle.std.proofs.Common.{◌≡◌, ◌+◌, ◌-◌, ◌≤◌, ◌∙◌, sym, subst, arith, inl, inr}
+use Rattle.std.proofs.Common.{◌≡◌, ◌+◌, ◌-◌, ◌∙◌, sym, subst, arith, inl, inr}
 use Rattle.std.specs.Prelude.{slice_index}
 use Rattle.std.proofs.lemmas.Bool.{cases_lt}
 use Rattle.ch_hierarchy.specs.declared.side.Side.TheVariants.{Up, Down}
-use Rattle.ch_tree.specs.declared.sweep.TheConstants.{NEVER}
 use Rattle.ch_tree.specs.Tree.{IsSweptTo, StaysBelow}
 use Rattle.ch_tree.proofs.theory.Sweeps.{swept_less}
-use Rattle.ch_tree.proofs.theory.Walks.{read_weight, sum_begins, sum_step, sum_whole}
+use Rattle.ch_tree.proofs.theory.Walks.{read_weight, sum_begins, sum_step}
 use Rattle.ch_tree.proofs.query.sweep_common.Goals as goal
 
 pub loop-place-init : goal.loop-place-init

@@ -1,5 +1,5 @@
 -- One more place is passed.
-use Rattle.std.proofs.Common.{◌≡◌, ◌-◌, ◌<◌, ◌≤◌, length, get_or, ◌∙◌, ap, inl, inr, arith}
+use Rattle.std.proofs.Common.{◌-◌, get_or, ◌∙◌, ap, inl, inr, arith}
 use Rattle.std.proofs.lemmas.List.{get_or_default}
 use Rattle.ch_tree.specs.declared.sweep.TheConstants.{NEVER}
 use Rattle.ch_tree.specs.Spaces.{IsBeatenAt}

@@ -1,5 +1,5 @@
 -- Each leg that is read leads to a node, and one that shows a lighter way is such a leg.
-use Rattle.std.proofs.Common.{◌≡◌, ◌<◌, length, map, get_or, refl, ap, subst, arith}
+use Rattle.std.proofs.Common.{◌≡◌, map, get_or, refl, ap, subst, arith}
 use Rattle.ch_hierarchy.specs.Rows.{row}
 use Rattle.ch_hierarchy.specs.Ranked.{ranked_leg}
 use Rattle.ch_hierarchy.specs.declared.side.Side.{Side}
