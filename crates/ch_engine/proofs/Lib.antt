@@ -3,7 +3,6 @@ mod AddingUp
 mod ArcsOfArrays
 mod Filled
 mod FirstLines
-mod Joints
 mod LegSums
 mod FlowsWritten
 mod LineFlows
@@ -18,14 +17,14 @@ mod SeenLines
 pub mod NearRows
 mod NearSums
 mod NearTable
+mod NearTrees
+mod Meetings
 mod MeetingTrees
-mod PathTrees
 mod PlaceTrees
 mod SparseSets
 mod SumMeets
 mod SumTrees
 mod TableSums
 mod TableWords
-mod TreeSums
 mod Ways
 mod WhichHierarchy

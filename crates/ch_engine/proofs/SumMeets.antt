@@ -27,13 +27,12 @@ use Rattle.ch_query.specs.TwoSided.{MeetsFirst}
 use Rattle.ch_query.proofs.one_side.End.{least_reached}
 use Rattle.ch_query.proofs.one_side.TightNodes.{sum_walk, tight_down, tight_up}
 use Rattle.ch_query.proofs.two_sides.MeetingSteps.{first_trans}
-use Rattle.ch_engine.specs.declared.sum_meets.Met.{Met}
+use Rattle.ch_engine.specs.declared.sum_meets.Meeting.{Meeting}
 use Rattle.ch_engine.specs.declared.sum_meets.Stop.{Stop}
 use Rattle.ch_engine.specs.declared.sum_trees.Branch.{Branch}
-use Rattle.ch_engine.specs.LegSums.{unknown}
+use Rattle.ch_engine.specs.LegSums.{IsRouteSum, unknown}
 use Rattle.ch_engine.specs.Slots.{IsSlotOf, named}
 use Rattle.ch_engine.specs.Lines.{Lines}
-use Rattle.ch_engine.specs.PathTrees.{IsRouteSum}
 use Rattle.ch_engine.specs.TableSums.{AreBranches, AreCells, AreOffers, AreStopPairs, AreStops, CoverBranches}
 use Rattle.ch_engine.specs.TableSums.{CoverSlots, CoverStops, Covers, IsBranch, IsCell, IsFirstMet, IsOffer, KeepsCovers}
 use Rattle.ch_engine.specs.TableSums.{IsSmall, IsStopWithin, met_at, stop_pair}
@@ -41,17 +40,17 @@ use Rattle.ch_engine.proofs.MeetingTrees.{route_over}
 use Rattle.ch_engine.proofs.SparseSets.{at_slot, slot_at}
 
 -- what is known covers what it comes first of
-covers_by : (known : Option Met) (e : Met) (v : ℕ) (cost : Cost) → known ≡ Some e → MeetsFirst (e.cost, e.node) (cost, v) →
+pub covers_by : (known : Option Meeting) (e : Meeting) (v : ℕ) (cost : Cost) → known ≡ Some e → MeetsFirst (e.cost, e.node) (cost, v) →
     Covers known v cost
-covers_by known e v cost is first = subst (λ (o : Option Met). Covers o v cost) (sym is) first
+covers_by known e v cost is first = subst (λ (o : Option Meeting). Covers o v cost) (sym is) first
 
 -- the first of two meetings covers the new one
-first_new : (old result : Option Met) (new : Met) → IsFirstMet old new result → Covers result new.node new.cost
+first_new : (old result : Option Meeting) (new : Meeting) → IsFirstMet old new result → Covers result new.node new.cost
 first_new old result new first =
     let e = first.covers_new in covers_by result e.0 new.node new.cost e.1 e.2
 
 -- and what the old one covered
-first_old : (old result : Option Met) (new : Met) → IsFirstMet old new result → (v : ℕ) (cost : Cost) → Covers old v cost →
+pub first_old : (old result : Option Meeting) (new : Meeting) → IsFirstMet old new result → (v : ℕ) (cost : Cost) → Covers old v cost →
     Covers result v cost
 first_old None result new first v cost covers = absurd covers
 first_old (Some d) result new first v cost covers =
@@ -61,7 +60,7 @@ first_old (Some d) result new first v cost covers =
 -- one more stop of a branch
 module _ (H : LevelsAndLegs) (lines : Lines) (values targets : List ℕ) (s : ℕ) where
   -- the meeting of a branch and a stop is one of the source and the target
-  pub offer_of : (branch : Branch) (stop : Stop) (met : Met) → IsBranch Up H lines values s branch.node branch.cost branch.sum →
+  pub offer_of : (branch : Branch) (stop : Stop) (met : Meeting) → IsBranch Up H lines values s branch.node branch.cost branch.sum →
       IsBranch Down H lines values (get_or targets stop.place 0) branch.node stop.cost stop.sum → met.node ≡ branch.node →
       met.cost ≡ cost_sum branch.cost stop.cost →
       (met.sum ≢ unknown → (branch.sum ≢ unknown) × (stop.sum ≢ unknown) × (met.sum ≡ branch.sum + stop.sum)) →
@@ -78,12 +77,12 @@ module _ (H : LevelsAndLegs) (lines : Lines) (values targets : List ℕ) (s : �
   }
 
   -- a row with one more meeting has meetings of the source and the targets
-  pub offers_more : (row new : List (Option Met)) (place : ℕ) (old result : Option Met) (met : Met) → place < length row →
+  pub offers_more : (row new : List (Option Meeting)) (place : ℕ) (old result : Option Meeting) (met : Meeting) → place < length row →
       old ≡ met_at row place → new ≡ set row place result → IsFirstMet old met result →
       IsOffer H lines values s (get_or targets place 0) met →
       length new ≡ length row → AreOffers H lines values s targets row → AreOffers H lines values s targets new
   offers_more row new place old result met low read is first offer long are c x inside at =
-      let here : met_at (set row place result) c ≡ Some x = sym (ap (λ (l : List (Option Met)). met_at l c) is) ∙ at in
+      let here : met_at (set row place result) c ≡ Some x = sym (ap (λ (l : List (Option Meeting)). met_at l c) is) ∙ at in
       elim (cases_eq c place) [
         | inl same ↦ (
             let value : result ≡ Some x =
@@ -98,35 +97,36 @@ module _ (H : LevelsAndLegs) (lines : Lines) (values targets : List ℕ) (s : �
       ]
 
 -- without meetings there is none of others
-pub offers_none : (H : LevelsAndLegs) (lines : Lines) (values targets : List ℕ) (s : ℕ) (row : List (Option Met)) (n : ℕ) →
+pub offers_none : (H : LevelsAndLegs) (lines : Lines) (values targets : List ℕ) (s : ℕ) (row : List (Option Meeting)) (n : ℕ) →
     row ≡ replicate n None → AreOffers H lines values s targets row
 offers_none H lines values targets s row n is c met low at =
     let size : length row ≡ n = ap length is ∙ length-replicate n None in
     let here : met_at row c ≡ None =
-    ap (λ (l : List (Option Met)). met_at l c) is ∙ get_or-replicate n c None None (omega (arith, low, size)) in
+    ap (λ (l : List (Option Meeting)). met_at l c) is ∙ get_or-replicate n c None None (omega (arith, low, size)) in
     absurd (none-some met (sym here ∙ at))
 
 -- a row with one more meeting covers what it covered, and the new one
-module _ (row new : List (Option Met)) (place : ℕ) (old result : Option Met) (met : Met) (low : place < length row)
+module _ (row new : List (Option Meeting)) (place : ℕ) (old result : Option Meeting) (met : Meeting) (low : place < length row)
     (read : old ≡ met_at row place) (is : new ≡ set row place result) (first : IsFirstMet old met result) where
   at_place : met_at new place ≡ result
-  at_place = ap (λ (l : List (Option Met)). met_at l place) is ∙ get_or-set_same row place result None low
+  at_place = ap (λ (l : List (Option Meeting)). met_at l place) is ∙ get_or-set_same row place result None low
 
   pub covers_still : KeepsCovers row new
   covers_still c v cost covers = elim (cases_eq c place) [
     | inl same ↦ (
         let before : Covers old v cost =
-        subst (λ (o : Option Met). Covers o v cost) (ap (met_at row) same ∙ sym read) covers in
-        subst (λ (o : Option Met). Covers o v cost) (sym (ap (met_at new) same ∙ at_place)) (first_old old result met first v cost before))
-    | inr away ↦ subst (λ (o : Option Met). Covers o v cost)
-        (sym (ap (λ (l : List (Option Met)). met_at l c) is ∙ get_or-set_other row place c result None away)) covers
+        subst (λ (o : Option Meeting). Covers o v cost) (ap (met_at row) same ∙ sym read) covers in
+        subst (λ (o : Option Meeting). Covers o v cost) (sym (ap (met_at new) same ∙ at_place))
+        (first_old old result met first v cost before))
+    | inr away ↦ subst (λ (o : Option Meeting). Covers o v cost)
+        (sym (ap (λ (l : List (Option Meeting)). met_at l c) is ∙ get_or-set_other row place c result None away)) covers
   ]
 
   pub covers_new : Covers (met_at new place) met.node met.cost
-  covers_new = subst (λ (o : Option Met). Covers o met.node met.cost) (sym at_place) (first_new old result met first)
+  covers_new = subst (λ (o : Option Meeting). Covers o met.node met.cost) (sym at_place) (first_new old result met first)
 
 -- one more stop is covered
-pub stops_more : (v : ℕ) (cost : Cost) (stops : List Stop) (j : ℕ) (row new : List (Option Met)) → CoverStops v cost stops j row →
+pub stops_more : (v : ℕ) (cost : Cost) (stops : List Stop) (j : ℕ) (row new : List (Option Meeting)) → CoverStops v cost stops j row →
     KeepsCovers row new → ((d : Stop) → Covers (met_at new (get_or stops j d).place) v (cost_sum cost (get_or stops j d).cost)) →
     CoverStops v cost stops (j + 1) new
 stops_more v cost stops j row new are keeps here k d low = elim (cases_lt k j) [
@@ -137,7 +137,7 @@ stops_more v cost stops j row new are keeps here k d low = elim (cases_lt k j) [
 ]
 
 -- one more branch is covered
-pub branches_more : (branches : List Branch) (i : ℕ) (names : List ℕ) (stops : List (List Stop)) (row new : List (Option Met)) →
+pub branches_more : (branches : List Branch) (i : ℕ) (names : List ℕ) (stops : List (List Stop)) (row new : List (Option Meeting)) →
     CoverBranches branches i names stops row → KeepsCovers row new →
     ((d : Branch) → CoverSlots (get_or branches i d).node (get_or branches i d).cost names stops new) →
     CoverBranches branches (i + 1) names stops new
@@ -229,7 +229,7 @@ module _ (H : LevelsAndLegs) (lines : Lines) (values targets : List ℕ) where
         (is.path.weight, is.arcs)
 
     -- a row that covers all has the cells of s
-    pub cells_are : (row : List (Option Met)) → length row ≡ length targets → AreOffers H lines values s targets row →
+    pub cells_are : (row : List (Option Meeting)) → length row ≡ length targets → AreOffers H lines values s targets row →
         CoverBranches branches (length branches) names stops row → AreCells H lines values s targets row
     cells_are row size offers covers = (
       size,
@@ -253,7 +253,7 @@ module _ (H : LevelsAndLegs) (lines : Lines) (values targets : List ℕ) where
     )
 
 -- where the first meeting is, the route meets
-module _ (H : LevelsAndLegs) (k : IsKeptForSome H) (lines : Lines) (values : List ℕ) (s t : ℕ) (met : Option Met)
+module _ (H : LevelsAndLegs) (k : IsKeptForSome H) (lines : Lines) (values : List ℕ) (s t : ℕ) (met : Option Meeting)
     (cell : IsCell H lines values s t met) where
   law : MeetingsAreDistances k.0 H
   law = meetings_are_distances k.0 H k.1 k.2
@@ -270,12 +270,12 @@ module _ (H : LevelsAndLegs) (k : IsKeptForSome H) (lines : Lines) (values : Lis
   cell_never none m d meeting = elim ((kept_has_walks k.0 H k.1 k.2).decided s t) [
     | inl least ↦ (
         let h = (law.least s t least.0).0 least.1 in
-        subst (λ (o : Option Met). Covers o h.meets.0 least.0) none (covered least.0 h h.meets.0 h.meets.1))
+        subst (λ (o : Option Meeting). Covers o h.meets.0 least.0) none (covered least.0 h h.meets.0 h.meets.1))
     | inr never ↦ (law.never s t).0 never m d meeting
   ]
 
   -- with one, its sum is that along the route
-  pub cell_route : (x : Met) → met ≡ Some x → x.sum ≢ unknown → IsRouteSum H lines values s t (x.cost.weight, x.sum)
+  pub cell_route : (x : Meeting) → met ≡ Some x → x.sum ≢ unknown → IsRouteSum H lines values s t (x.cost.weight, x.sum)
   cell_route x is known =
       let offer = cell.offer x is in
       let walk : IsWalkCost k.0 s t (cost_sum offer.up offer.down) =
@@ -287,7 +287,7 @@ module _ (H : LevelsAndLegs) (k : IsKeptForSome H) (lines : Lines) (values : Lis
       let c = least.0 in
       let h : IsLeastMeeting H s t c = (law.least s t c).0 least.1 in
       let first : MeetsFirst (x.cost, x.node) (c, h.meets.0) =
-      subst (λ (o : Option Met). Covers o h.meets.0 c) is (covered c h h.meets.0 h.meets.1) in
+      subst (λ (o : Option Meeting). Covers o h.meets.0 c) is (covered c h h.meets.0 h.meets.1) in
       let below : IsAtMost c (cost_sum offer.up offer.down) = IsLeast-IsAtMost k.0 s t c (cost_sum offer.up offer.down) least.1 walk in
       let more : IsAtMost c x.cost = subst (IsAtMost c) (sym offer.cost) below in
       let same : c ≡ x.cost = IsAtMost_antisymm c x.cost more first.0 in
@@ -300,7 +300,7 @@ module _ (H : LevelsAndLegs) (k : IsKeptForSome H) (lines : Lines) (values : Lis
           own.least m d meeting,
           λ equal.
               let h_d : IsLeastMeeting H s t d = subst (IsLeastMeeting H s t) (sym equal) own in
-              let at : MeetsFirst (x.cost, x.node) (d, m) = subst (λ (o : Option Met). Covers o m d) is (covered d h_d m meeting) in
+              let at : MeetsFirst (x.cost, x.node) (d, m) = subst (λ (o : Option Meeting). Covers o m d) is (covered d h_d m meeting) in
               at.1 (sym equal),
         );
       } in

@@ -15,9 +15,8 @@ use Rattle.ch_query.specs.SearchTree.{FollowsParents, IsSearchTree}
 use Rattle.ch_query.proofs.one_side.Expanding.{reached_arcs}
 use Rattle.ch_query.proofs.routing.Rows.{row_one, rows_ordered}
 use Rattle.ch_engine.specs.declared.sum_trees.Branch.{Branch}
-use Rattle.ch_engine.specs.LegSums.{IsRowLegSum}
+use Rattle.ch_engine.specs.LegSums.{IsRowLegSum, IsStepsSum}
 use Rattle.ch_engine.specs.Lines.{Lines}
-use Rattle.ch_engine.specs.PathTrees.{IsStepsSum}
 use Rattle.ch_engine.specs.TableSums.{AreBranches, AreSummed, IsSumBack}
 
 module _ (side : Side) (H : LevelsAndLegs) (lines : Lines) (values : List ℕ) (s : ℕ) (parents : List ℕ) where

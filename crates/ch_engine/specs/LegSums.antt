@@ -1,5 +1,6 @@
--- Sums of values along the legs of a hierarchy: for each leg the values on the lines of the arcs that it stands for.
-use Rattle.std.specs.Prelude.{◌≡◌, ◌≢◌, ℕ, ◌-◌, ◌^◌, ◌<◌, List, [], length, slice_index, slice_index_or, None}
+-- Sums of values along the legs of a hierarchy: for each leg the values on the lines of the arcs that it stands for. The sum along
+-- a route is that of the legs on both ways to where it meets.
+use Rattle.std.specs.Prelude.{◌≡◌, ◌≢◌, ℕ, ◌+◌, ◌-◌, ◌^◌, ◌<◌, List, [], ◌∷◌, length, slice_index, slice_index_or, None}
 use Rattle.ch_graph.specs.declared.arc.InArc.{InArc}
 use Rattle.ch_hierarchy.specs.declared.leg.Leg.{Leg}
 use Rattle.ch_hierarchy.specs.declared.ranked.RankedLeg.{RankedLeg}
@@ -8,7 +9,8 @@ use Rattle.ch_hierarchy.specs.Hierarchy.{LevelsAndLegs}
 use Rattle.ch_hierarchy.specs.declared.side.Side.{Side}
 use Rattle.ch_hierarchy.specs.declared.side.Side.TheVariants.{Up, Down}
 use Rattle.ch_hierarchy.specs.Side.{rows_of}
-use Rattle.ch_query.specs.Routes.{IsUnpacked}
+use Rattle.ch_query.specs.declared.routes.Route.{Route}
+use Rattle.ch_query.specs.Routes.{DescentStep, IsDescent, IsRoute, IsUnpacked}
 use Rattle.ch_engine.specs.declared.leg_sums.KeptSums.{KeptSums}
 use Rattle.ch_engine.specs.declared.leg_sums.LegSums.{LegSums}
 use Rattle.ch_engine.specs.Lines.{IsLineBy, Lines, head_of, tail_of}
@@ -44,6 +46,22 @@ IsLegSum H lines values u w leg sum =
 -- the same of a leg in the row of v
 abbrev pub IsRowLegSum : Side → LevelsAndLegs → Lines → List ℕ → ℕ → Leg → ℕ → Type 0
 IsRowLegSum side H lines values v leg sum = IsLegSum H lines values (tail_of side v leg.node) (head_of side v leg.node) leg sum
+
+-- the sum of the values along the steps of a descent
+abbrev pub IsStepsSum : Side → LevelsAndLegs → Lines → List ℕ → List DescentStep → ℕ → Type 0
+IsStepsSum side H lines values [] sum = sum ≡ 0
+IsStepsSum side H lines values (step ∷ steps) sum =
+    (a b : ℕ) × IsRowLegSum side H lines values step.low step.leg a × IsStepsSum side H lines values steps b × (sum ≡ a + b)
+
+-- the sum along the way that a route goes between x and s
+abbrev pub IsDescentSum : Side → LevelsAndLegs → Lines → List ℕ → ℕ → ℕ → ℕ → Type 0
+IsDescentSum side H lines values s x sum =
+    (steps : List DescentStep) × IsDescent (rows_of H side) s x steps × IsStepsSum side H lines values steps sum
+
+-- the weight of the route from s to t, and the sum of the values between the ends of its arcs
+abbrev pub IsRouteSum : LevelsAndLegs → Lines → List ℕ → ℕ → ℕ → ℕ × ℕ → Type 0
+IsRouteSum H lines values s t found =
+    (route : Route) × IsRoute H s t route × (found.0 ≡ route.weight) × IsSumBetween H lines values route.arcs found.1
 
 -- a word is this sum, or the word for unknown
 abbrev pub IsLegWord : Side → LevelsAndLegs → Lines → List ℕ → ℕ → Leg → ℕ → Type 0

@@ -12,7 +12,6 @@ pub mod RouteSums
 pub mod Slots
 pub mod Sums
 pub mod Opened
-pub mod PathTrees
 pub mod PlaceTrees
 pub mod Flows
 pub mod Topologies

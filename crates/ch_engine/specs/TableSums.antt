@@ -17,14 +17,13 @@ use Rattle.ch_query.specs.SearchSpace.{IsTight}
 use Rattle.ch_query.specs.SearchTree.{FollowsParents}
 use Rattle.ch_query.specs.TwoSided.{MeetsFirst}
 use Rattle.ch_engine.specs.declared.sum_trees.Branch.{Branch}
-use Rattle.ch_engine.specs.declared.sum_meets.Met.{Met}
+use Rattle.ch_engine.specs.declared.sum_meets.Meeting.{Meeting}
 use Rattle.ch_engine.specs.declared.sum_meets.Stop.{Stop}
 use Rattle.ch_engine.specs.declared.written.Summed.{Summed}
 use Rattle.ch_engine.specs.declared.written.SumsEnd.{SumsEnd}
 use Rattle.ch_engine.specs.Held.{Held}
-use Rattle.ch_engine.specs.LegSums.{unknown}
+use Rattle.ch_engine.specs.LegSums.{IsDescentSum, IsStepsSum, unknown}
 use Rattle.ch_engine.specs.Lines.{Lines}
-use Rattle.ch_engine.specs.PathTrees.{IsDescentSum, IsStepsSum}
 use Rattle.ch_engine.specs.RouteSums.{IsPairSum, IsPairTooLarge}
 use Rattle.ch_engine.specs.Slots.{IsSlotOf}
 
@@ -90,7 +89,7 @@ pub record AreStopPairs (H : LevelsAndLegs) (lines : Lines) (values targets : Li
       (w : ℕ) × Contains pairs (v, (record { place = c; cost = cost; sum = w }))
 
 -- a branch of s and one of t at a node, with the sum of their costs and that of their sums, if it is known
-pub record IsOffer (H : LevelsAndLegs) (lines : Lines) (values : List ℕ) (s t : ℕ) (met : Met) : Type 0 where
+pub record IsOffer (H : LevelsAndLegs) (lines : Lines) (values : List ℕ) (s t : ℕ) (met : Meeting) : Type 0 where
   pub up : Cost
   pub down : Cost
   pub first : ℕ
@@ -101,50 +100,50 @@ pub record IsOffer (H : LevelsAndLegs) (lines : Lines) (values : List ℕ) (s t 
   pub sum : met.sum ≢ unknown → (first ≢ unknown) × (second ≢ unknown) × (met.sum ≡ first + second)
 
 -- what is known comes first of a meeting at this node and this cost, or before it
-abbrev pub Covers : Option Met → ℕ → Cost → Type 0
+abbrev pub Covers : Option Meeting → ℕ → Cost → Type 0
 Covers None v cost = ⊥
 Covers (Some met) v cost = MeetsFirst (met.cost, met.node) (cost, v)
 
 -- the meeting of place c
-abbrev pub met_at : List (Option Met) → ℕ → Option Met
+abbrev pub met_at : List (Option Meeting) → ℕ → Option Meeting
 met_at row c = slice_index_or row c None
 
 -- the meetings of a row are those of s and the targets
-abbrev pub AreOffers : LevelsAndLegs → Lines → List ℕ → ℕ → List ℕ → List (Option Met) → Type 0
-AreOffers H lines values s targets row = (c : ℕ) (met : Met) → c < length row → met_at row c ≡ Some met →
+abbrev pub AreOffers : LevelsAndLegs → Lines → List ℕ → ℕ → List ℕ → List (Option Meeting) → Type 0
+AreOffers H lines values s targets row = (c : ℕ) (met : Meeting) → c < length row → met_at row c ≡ Some met →
     IsOffer H lines values s (slice_index targets c) met
 
 -- what the row covered before it covers still
-abbrev pub KeepsCovers : List (Option Met) → List (Option Met) → Type 0
+abbrev pub KeepsCovers : List (Option Meeting) → List (Option Meeting) → Type 0
 KeepsCovers old new = (c v : ℕ) (cost : Cost) → Covers (met_at old c) v cost → Covers (met_at new c) v cost
 
 -- it covers the meetings of a branch with the first stops at its node
-abbrev pub CoverStops : ℕ → Cost → List Stop → ℕ → List (Option Met) → Type 0
+abbrev pub CoverStops : ℕ → Cost → List Stop → ℕ → List (Option Meeting) → Type 0
 CoverStops v cost stops n row = (k : ℕ) (d : Stop) → k < n →
     Covers (met_at row (slice_index_or stops k d).place) v (cost_sum cost (slice_index_or stops k d).cost)
 
 -- it covers those of a branch with all stops at the slot of its node
-abbrev pub CoverSlots : ℕ → Cost → List ℕ → List (List Stop) → List (Option Met) → Type 0
+abbrev pub CoverSlots : ℕ → Cost → List ℕ → List (List Stop) → List (Option Meeting) → Type 0
 CoverSlots v cost names stops row = (i : ℕ) → IsSlotOf names v i →
     CoverStops v cost (slice_index_or stops i []) (length (slice_index_or stops i [])) row
 
 -- it covers those of the first branches with all stops
-abbrev pub CoverBranches : List Branch → ℕ → List ℕ → List (List Stop) → List (Option Met) → Type 0
+abbrev pub CoverBranches : List Branch → ℕ → List ℕ → List (List Stop) → List (Option Meeting) → Type 0
 CoverBranches branches n names stops row = (k : ℕ) (d : Branch) → k < n →
     CoverSlots (slice_index_or branches k d).node (slice_index_or branches k d).cost names stops row
 
 -- of an old meeting and a new one the first, by cost and then by node
-pub record IsFirstMet (old : Option Met) (new : Met) (result : Option Met) : Type 0 where
+pub record IsFirstMet (old : Option Meeting) (new : Meeting) (result : Option Meeting) : Type 0 where
   pub chosen : (result ≡ Some new) ⊎ (result ≡ old)
-  pub covers_new : (e : Met) × (result ≡ Some e) × MeetsFirst (e.cost, e.node) (new.cost, new.node)
-  pub covers_old : (d : Met) → old ≡ Some d → (e : Met) × (result ≡ Some e) × MeetsFirst (e.cost, e.node) (d.cost, d.node)
+  pub covers_new : (e : Meeting) × (result ≡ Some e) × MeetsFirst (e.cost, e.node) (new.cost, new.node)
+  pub covers_old : (d : Meeting) → old ≡ Some d → (e : Meeting) × (result ≡ Some e) × MeetsFirst (e.cost, e.node) (d.cost, d.node)
 
 -- where a route from s to t would meet, if there is one
-pub record IsCell (H : LevelsAndLegs) (lines : Lines) (values : List ℕ) (s t : ℕ) (met : Option Met) : Type 0 where
-  pub offer : (x : Met) → met ≡ Some x → IsOffer H lines values s t x
+pub record IsCell (H : LevelsAndLegs) (lines : Lines) (values : List ℕ) (s t : ℕ) (met : Option Meeting) : Type 0 where
+  pub offer : (x : Meeting) → met ≡ Some x → IsOffer H lines values s t x
   pub covers : (v : ℕ) (a b : Cost) → IsTight H Up s v a → IsTight H Down t v b → Covers met v (cost_sum a b)
 
-abbrev pub AreCells : LevelsAndLegs → Lines → List ℕ → ℕ → List ℕ → List (Option Met) → Type 0
+abbrev pub AreCells : LevelsAndLegs → Lines → List ℕ → ℕ → List ℕ → List (Option Meeting) → Type 0
 AreCells H lines values s targets row = (length row ≡ length targets)
     × ((c : ℕ) → c < length targets → IsCell H lines values s (slice_index targets c) (met_at row c))
 

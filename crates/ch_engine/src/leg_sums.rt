@@ -42,7 +42,7 @@ pub(crate) struct KeptSums {
 
 impl LegSums {
     /// Returns the word of the leg at place `place` in the row of a node, or [`UNKNOWN`] if it is not there yet.
-    pub(crate) fn word(&self, hierarchy: &Hierarchy, side: Side, node: u32, place: usize) -> u64
+    fn word(&self, hierarchy: &Hierarchy, side: Side, node: u32, place: usize) -> u64
         requires node { node < nodes_of hierarchy.now }
         ensures { (lines : Lines) (values : List ℕ) → AreLegSums hierarchy.now lines values self.now → place < length (the_row_of (rows_of hierarchy.now side) node) → IsLegWord side hierarchy.now lines values node (leg_on (the_row_of (rows_of hierarchy.now side) node) place) result }
     {

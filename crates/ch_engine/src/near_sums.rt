@@ -12,7 +12,8 @@ use crate::engine::Engine;
 use crate::fault::Refusal;
 use crate::near::write_row;
 use crate::place_trees::PlaceTrees;
-use crate::source_tree::{SourceTree, sum_of};
+use crate::source_tree::SourceTree;
+use crate::sum_meets::known_meeting;
 use crate::sum_trees::TreeRoom;
 use crate::sums::write_found;
 use crate::words::are_nodes;
@@ -140,7 +141,6 @@ impl Engine {
     fn find_source_tree(&mut self, alloc: Global, source: u32) -> Result<SourceTree, AllocError>
         requires { source < nodes_of self.old.hierarchy }
         ensures tree { IfOk result (IsSourceTree self.old source) }
-        ensures numbers { IfOk result (λ tree. tree.slots.numbers ≡ nodes_of self.old.hierarchy) }
         ensures same { self.new ≡ self.old }
     {
         let nodes = self.nodes();
@@ -236,15 +236,18 @@ impl Engine {
         ensures sum { IfOk result (λ known. MatchOption known ⊤ (IsNearSum self.old source pair.1 pair.0)) }
         ensures same { self.new ≡ self.old }
     {
-        let (weight, place) = pair;
+        let (_, place) = pair;
         self.need_tree(alloc, place)?;
         let Some(trees) = &self.place_trees else {
             return Ok(None);
         };
-        let Some(branches) = trees.branches(place) else {
+        let Some(branches) = trees.branches(place as usize) else {
             return Ok(None);
         };
-        Ok(sum_of(tree.first_joint(branches, weight)))
+        let Some((_, sum)) = known_meeting(tree.first_meeting(branches)) else {
+            return Ok(None);
+        };
+        Ok(Some(sum))
     }
 
     /// Finds the tree of a place, unless it is known.
@@ -254,7 +257,8 @@ impl Engine {
     fn need_tree(&mut self, alloc: Global, place: u32) -> Result<(), AllocError>
         ensures { self.new ≡ self.old }
     {
-        if place as usize >= self.places.len() || has_tree(&self.place_trees, place) {
+        let place = place as usize;
+        if place >= self.places.len() || has_tree(&self.place_trees, place) {
             return Ok(());
         }
         let nodes = self.nodes();
@@ -271,7 +275,7 @@ impl Engine {
         let Some(kept) = &self.values else {
             return Err(AllocError);
         };
-        let node = self.places[place as usize];
+        let node = self.places[place];
         let side = target_side(self.direction);
         self.network
             .find_branches(alloc, &mut self.scratch, kept, side, node, room)?;
@@ -305,7 +309,7 @@ impl Engine {
 }
 
 /// Whether the tree of a place is known.
-fn has_tree(trees: &Option<PlaceTrees>, place: u32) -> bool {
+fn has_tree(trees: &Option<PlaceTrees>, place: usize) -> bool {
     match trees {
         Some(trees) => trees.branches(place).is_some(),
         None => false,

@@ -2,16 +2,17 @@
 ghost use Rattle.std.specs.Prelude.{◌≡◌, ◌≢◌, ◌+◌, ◌<◌, ℕ, List, length, slice_index, slice_set, IfErr, IfOk, MatchOption, OnOk, Some, ⊤};
 ghost use Rattle.ch_graph.specs.Graph.{HasEnds};
 ghost use Rattle.ch_hierarchy.specs.Hierarchy.{LevelsAndLegs, nodes_of};
+ghost use Rattle.ch_engine.specs.Held.{only};
 ghost use Rattle.ch_engine.specs.Lines.{IsLineBy, IsOfSome, Lines as AnyLines};
 ghost use Rattle.ch_engine.specs.NearRows.{StaysFrom};
-ghost use Rattle.ch_engine.specs.PathTrees.{AreBothTrees, IsRouteSum};
+ghost use Rattle.ch_engine.specs.PlaceTrees.{ArePairTrees};
 ghost use Rattle.ch_engine.specs.Refusals.{AreNodes, ArePairSumLengths, IsRefusalOfPairSums};
-ghost use Rattle.ch_engine.specs.RouteSums.{AreLinesAlong, ArePairSumsWritten, IsOfSomePair, IsSumAlong, IsTotal, sum_on};
+ghost use Rattle.ch_engine.specs.RouteSums.{AreLinesAlong, ArePairSumsWritten, IsOfSomePair, IsPairSum, IsSumAlong, IsTotal, sum_on};
 
 use crate::engine::Engine;
 use crate::fault::Refusal;
 use crate::network::Network;
-use crate::route_trees::{BothTrees, different, in_order};
+use crate::pair_trees::{PairTrees, different};
 use crate::routes::weight_of;
 use crate::words::are_both_nodes;
 use crate::written::{Summed, SumsEnd};
@@ -80,9 +81,36 @@ impl Engine {
         ensures behind { StaysFrom result.count weights.old weights.new × StaysFrom result.count sums.old sums.new }
         ensures same { self.new ≡ self.old }
     {
-        let trees = self.trees_for(alloc, sources, targets, values);
+        let mut trees = self.trees_for(alloc, sources, targets, values);
+        let summed = self.write_pairs_by(
+            alloc, &mut trees, sources, targets, values, weights, sums,
+        );
+        self.keep_room(trees);
+        summed
+    }
+
+    /// Writes the same by trees, as far as they tell the sums, and otherwise by a search for each pair.
+    fn write_pairs_by(
+        &mut self,
+        alloc: Global,
+        trees: &mut Option<PairTrees>,
+        sources: &[u32],
+        targets: &[u32],
+        values: &[u64],
+        weights: &mut [u64],
+        sums: &mut [u64],
+    ) -> Summed
+        requires trees { MatchOption trees.old ⊤ (ArePairTrees self.old.hierarchy self.old.lines values.now) }
+        requires lengths { ArePairSumLengths (length sources.now) (length targets.now) (length weights.old) (length sums.old) (length values.now) self.old.lines.count }
+        requires sources { AreNodes (nodes_of self.old.hierarchy) sources.now }
+        requires targets { AreNodes (nodes_of self.old.hierarchy) targets.now }
+        requires kept { IsOfSome self.old.hierarchy self.old.lines }
+        ensures written { ArePairSumsWritten self.old sources.now targets.now values.now weights.new sums.new result }
+        ensures behind { StaysFrom result.count weights.old weights.new × StaysFrom result.count sums.old sums.new }
+        ensures same { self.new ≡ self.old }
+    {
         for i in 0..sources.len() {
-            if let Some((weight, sum)) = sum_by(&trees, sources[i], targets[i]) {
+            if let Some((weight, sum)) = sum_by(trees, sources[i], targets[i]) {
                 write_pair(i, weight, sum, weights, sums);
                 continue;
             }
@@ -111,20 +139,20 @@ impl Engine {
         sources: &[u32],
         targets: &[u32],
         values: &[u64],
-    ) -> Option<BothTrees>
-        ensures trees { MatchOption result ⊤ (AreBothTrees self.old.hierarchy self.old.lines values.now) }
+    ) -> Option<PairTrees>
+        ensures trees { MatchOption result ⊤ (ArePairTrees self.old.hierarchy self.old.lines values.now) }
         ensures same { self.new ≡ self.old }
     {
         if sources.len() < PAIRS {
             return None;
         }
-        let Ok(starts) = in_order(alloc, sources) else {
+        let Ok(starts) = different(alloc, sources) else {
             return None;
         };
-        let Ok(ends) = in_order(alloc, targets) else {
+        let Ok(ends) = different(alloc, targets) else {
             return None;
         };
-        if sources.len() / PAIRS < different(&starts).saturating_add(different(&ends)) {
+        if sources.len() / PAIRS < starts.len().saturating_add(ends.len()) {
             return None;
         }
         if sources.len() < self.network.count() / WORTH && self.known_sums(values).is_none() {
@@ -133,13 +161,17 @@ impl Engine {
         let Ok(kept) = self.sums_for(alloc, values) else {
             return None;
         };
-        match self
-            .network
-            .trees(alloc, &mut self.scratch, &starts, &ends, &kept.sums)
-        {
-            Ok(trees) => Some(trees),
-            Err(_) => None,
-        }
+        self.pair_trees(alloc, &kept, starts, ends)
+    }
+
+    /// Keeps the room for the tree of a source for further calls.
+    fn keep_room(&mut self, trees: Option<PairTrees>)
+        ensures { self.new ≡ self.old }
+    {
+        let Some(trees) = trees else {
+            return;
+        };
+        self.source_tree = Some(trees.tree);
     }
 }
 
@@ -182,9 +214,10 @@ impl Network {
     }
 }
 
-/// Returns the weight of the route of a pair and the sum along it, if there are trees that have it.
-fn sum_by(trees: &Option<BothTrees>, source: u32, target: u32) -> Option<(u64, u64)>
-    ensures { (H : LevelsAndLegs) (lines : AnyLines) (values : List ℕ) → MatchOption trees.now ⊤ (AreBothTrees H lines values) → MatchOption result ⊤ (IsRouteSum H lines values source target) }
+/// Returns the weight of the route of a pair and the sum along it, if there are trees that tell it.
+fn sum_by(trees: &mut Option<PairTrees>, source: u32, target: u32) -> Option<(u64, u64)>
+    ensures trees { (H : LevelsAndLegs) (lines : AnyLines) (values : List ℕ) → MatchOption trees.old ⊤ (ArePairTrees H lines values) → MatchOption trees.new ⊤ (ArePairTrees H lines values) }
+    ensures sum { (H : LevelsAndLegs) (lines : AnyLines) (values : List ℕ) → MatchOption trees.old ⊤ (ArePairTrees H lines values) → IsOfSome H lines → target < nodes_of H → MatchOption result ⊤ (λ found. IsPairSum (only H lines) values source target found.0 found.1) }
 {
     match trees {
         Some(trees) => trees.sum(source, target),

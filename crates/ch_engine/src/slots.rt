@@ -1,5 +1,5 @@
 //! Sparse sets of numbers, such as the nodes that some searches reach (Briggs and Torczon 1993).
-ghost use Rattle.std.specs.Prelude.{◌≡◌, ◌<◌, [], length, IfOk, IsSome, MatchOption, OnOk, ⊤};
+ghost use Rattle.std.specs.Prelude.{◌≡◌, ◌<◌, ◌↔◌, [], length, IfOk, IsSome, IsTrue, MatchOption, OnOk, ⊤};
 ghost use Rattle.ch_engine.specs.Slots.{IsNamedMore, IsSlotFound, IsSlotOf};
 
 use std::alloc::{AllocError, Global};
@@ -74,6 +74,14 @@ impl Slots {
         ensures { result ≡ length self.now.names }
     {
         self.names.len() as u32
+    }
+
+    /// Whether a number may have a slot.
+    #[inline]
+    pub(crate) fn may_have(&self, number: u32) -> bool
+        ensures { IsTrue result ↔ (number < self.now.numbers) }
+    {
+        (number as usize) < self.hints.len()
     }
 
     /// Returns the slot of a number, or `None` if it has none.

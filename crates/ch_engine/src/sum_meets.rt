@@ -1,5 +1,5 @@
 //! Where the search tree of a source meets those of the targets of a table, with the sums of both ways.
-ghost use Rattle.std.specs.Prelude.{◌≡◌, ◌≢◌, ◌+◌, ◌<◌, ℕ, List, length, All, IfOk, None, OnOk, replicate};
+ghost use Rattle.std.specs.Prelude.{◌≡◌, ◌≢◌, ◌+◌, ◌<◌, ℕ, List, length, All, IfOk, MatchOption, None, OnOk, replicate, ⊤};
 ghost use Rattle.ch_graph.specs.Cost.{cost_sum};
 ghost use Rattle.ch_hierarchy.specs.Hierarchy.{LevelsAndLegs, nodes_of};
 ghost use Rattle.ch_hierarchy.specs.declared.side.Side.TheVariants.{Up as UpSide};
@@ -8,7 +8,7 @@ ghost use Rattle.ch_engine.specs.Lines.{Lines};
 ghost use Rattle.ch_engine.specs.Slots.{named};
 ghost use Rattle.ch_engine.specs.TableSums.{AddsStops, AreBranches, AreCells, AreOffers, AreStops, AreStopsOf, AreWithin, CoverBranches, CoverSlots, CoverStops, IsBranch, IsFirstMet, IsSmall, IsStopWithin, KeepsCovers};
 
-use crate::leg_sums::{KeptSums, joined};
+use crate::leg_sums::{KeptSums, UNKNOWN, joined};
 use crate::network::Network;
 use crate::slots::Slots;
 use crate::sum_trees::{Branch, TreeRoom};
@@ -47,7 +47,7 @@ pub(crate) struct SumTable<'a> {
 
 /// A node where two trees meet, with the sums of their costs and of their sums there.
 #[derive(Clone, Copy)]
-pub(crate) struct Met {
+pub(crate) struct Meeting {
     pub(crate) node: u32,
     pub(crate) cost: Cost,
     /// The sum of the values on both ways, or [`UNKNOWN`](crate::leg_sums::UNKNOWN).
@@ -98,7 +98,7 @@ impl Network {
         source: u32,
         stops: &Stops<'_>,
         room: &mut TreeRoom,
-    ) -> Result<Vec<Option<Met>>, AllocError>
+    ) -> Result<Vec<Option<Meeting>>, AllocError>
         requires scratch { scratch.old ≡ nodes_of self.now.0 }
         requires source { source < nodes_of self.now.0 }
         requires kept { AreKeptSums self.now.0 self.now.1 table.now.kept.now }
@@ -115,7 +115,7 @@ impl Network {
 }
 
 /// Returns a row of so many cells, with no meetings.
-fn unmet(alloc: Global, cells: usize) -> Result<Vec<Option<Met>>, AllocError>
+fn unmet(alloc: Global, cells: usize) -> Result<Vec<Option<Meeting>>, AllocError>
     ensures { IfOk result (λ row. row.items ≡ replicate cells None) }
 {
     vec![in alloc; None; cells]
@@ -147,7 +147,7 @@ fn push_stops(
 }
 
 /// Goes on with the meetings of a row by all branches of its source.
-fn meet_branches(branches: &[Branch], stops: &Stops<'_>, row: &mut [Option<Met>])
+fn meet_branches(branches: &[Branch], stops: &Stops<'_>, row: &mut [Option<Meeting>])
     requires branches { All (λ e. IsSmall e.cost) branches.now }
     requires count { length stops.now.rows ≡ length stops.now.slots.now.names }
     requires stops { AreWithin (length row.old) stops.now.rows }
@@ -162,7 +162,7 @@ fn meet_branches(branches: &[Branch], stops: &Stops<'_>, row: &mut [Option<Met>]
 }
 
 /// Goes on with the meetings of a row by a branch and the stops at its node, if it has some.
-fn meet_branch(branch: Branch, stops: &Stops<'_>, row: &mut [Option<Met>])
+fn meet_branch(branch: Branch, stops: &Stops<'_>, row: &mut [Option<Meeting>])
     requires branch { IsSmall branch.cost }
     requires count { length stops.now.rows ≡ length stops.now.slots.now.names }
     requires stops { AreWithin (length row.old) stops.now.rows }
@@ -178,7 +178,7 @@ fn meet_branch(branch: Branch, stops: &Stops<'_>, row: &mut [Option<Met>])
 }
 
 /// Goes on with the meetings of a row by a branch and the stops at its node.
-fn meet_stops(branch: Branch, stops: &[Stop], row: &mut [Option<Met>])
+fn meet_stops(branch: Branch, stops: &[Stop], row: &mut [Option<Meeting>])
     requires branch { IsSmall branch.cost }
     requires stops { All (IsStopWithin (length row.old)) stops.now }
     ensures long { length row.new ≡ length row.old }
@@ -195,14 +195,14 @@ fn meet_stops(branch: Branch, stops: &[Stop], row: &mut [Option<Met>])
 
 /// Returns the meeting of a branch and a stop.
 #[inline]
-fn meet(branch: Branch, stop: Stop) -> Met
+fn meet(branch: Branch, stop: Stop) -> Meeting
     requires branch { IsSmall branch.cost }
     requires stop { IsSmall stop.cost }
     ensures node { result.node ≡ branch.node }
     ensures cost { result.cost ≡ cost_sum branch.cost stop.cost }
     ensures sum { result.sum ≢ unknown → (branch.sum ≢ unknown) × (stop.sum ≢ unknown) × (result.sum ≡ branch.sum + stop.sum) }
 {
-    Met {
+    Meeting {
         node: branch.node,
         cost: branch.cost.plus(stop.cost),
         sum: joined(branch.sum, stop.sum),
@@ -212,7 +212,7 @@ fn meet(branch: Branch, stop: Stop) -> Met
 /// Puts a meeting into a cell, unless what is there comes first: by cost, and then by node. Most cells stay as they are, so
 /// they are not written again.
 #[inline]
-fn put_first(cell: &mut Option<Met>, new: Met)
+pub(crate) fn put_first(cell: &mut Option<Meeting>, new: Meeting)
     ensures { IsFirstMet cell.old new cell.new }
 {
     if let Some(known) = cell {
@@ -221,4 +221,17 @@ fn put_first(cell: &mut Option<Met>, new: Met)
         }
     }
     *cell = Some(new);
+}
+
+/// Returns the weight and the sum of a meeting, if there is one and its sum is known.
+pub(crate) fn known_meeting(met: Option<Meeting>) -> Option<(u64, u64)>
+    ensures { MatchOption result ⊤ (λ found. MatchOption met ⊥ (λ met. (found ≡ (met.cost.weight, met.sum)) × (met.sum ≢ unknown))) }
+{
+    let Some(met) = met else {
+        return None;
+    };
+    if met.sum == UNKNOWN {
+        return None;
+    }
+    Some((met.cost.weight, met.sum))
 }

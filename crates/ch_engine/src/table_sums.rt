@@ -17,7 +17,7 @@ use crate::network::Network;
 use crate::route_sums::write_pair;
 use crate::routes::weight_of;
 use crate::slots::Slots;
-use crate::sum_meets::{Met, Stops, SumTable};
+use crate::sum_meets::{Meeting, Stops, SumTable};
 use crate::sum_trees::TreeRoom;
 use crate::words::{NO_DISTANCE, are_both_nodes};
 use crate::written::{Summed, SumsEnd};
@@ -238,7 +238,7 @@ impl Network {
         scratch: &mut Scratch,
         table: &SumTable<'_>,
         start: Start,
-        row: &[Option<Met>],
+        row: &[Option<Meeting>],
         weights: &mut [u64],
         sums: &mut [u64],
     ) -> (usize, SumsEnd)
@@ -275,7 +275,7 @@ impl Network {
         kept: &KeptSums,
         source: u32,
         target: u32,
-        met: Option<Met>,
+        met: Option<Meeting>,
     ) -> Result<(u64, u64), SumsEnd>
         requires scratch { scratch.old ≡ nodes_of self.now.0 }
         requires source { source < nodes_of self.now.0 }
@@ -318,7 +318,7 @@ impl Network {
 }
 
 /// Returns the weight and the sum of a cell whose trees meet here, if the sum is known.
-fn known_cell(met: Option<Met>) -> Option<(u64, u64)>
+fn known_cell(met: Option<Meeting>) -> Option<(u64, u64)>
     ensures { (H : LevelsAndLegs) (lines : Lines) (values : List ℕ) (s t : ℕ) → IsOfSome H lines → t < nodes_of H → IsCell H lines values s t met → MatchOption result ⊤ (λ found. IsPairSum (only H lines) values s t found.0 found.1) }
 {
     let Some(first) = met else {

@@ -4,7 +4,7 @@ use Rattle.std.specs.Prelude.{List}
 use Rattle.ch_query.specs.Routes.{DescentStep, IsDescent}
 use Rattle.ch_query.specs.SearchTree.{FollowsParents}
 use Rattle.ch_hierarchy.specs.Side.{rows_of}
-use Rattle.ch_engine.specs.PathTrees.{IsStepsSum}
+use Rattle.ch_engine.specs.LegSums.{IsStepsSum}
 use Rattle.ch_engine.proofs.SumTrees.{back_more, back_none}
 use Rattle.ch_engine.proofs.sum_trees.sum_back.Goals as goal
 

@@ -1,9 +1,9 @@
 -- Without a meeting there is no walk, and with one its sum is that along the route.
 use Rattle.std.proofs.Common.{None, refl}
 use Rattle.ch_engine.specs.Held.{only}
+use Rattle.ch_engine.proofs.MeetingTrees.{tree_pair}
 use Rattle.ch_engine.proofs.SumMeets.{cell_never, cell_route}
 use Rattle.ch_engine.proofs.TableSums.{found_none}
-use Rattle.ch_engine.proofs.TreeSums.{tree_pair}
 use Rattle.ch_engine.proofs.table_sums.known_cell.Goals as goal
 
 pub returns-in_default : goal.returns-in_default

@@ -15,7 +15,7 @@ use Rattle.ch_engine.specs.LegSums.{values_of}
 use Rattle.ch_engine.specs.Lines.{Lines}
 use Rattle.ch_engine.specs.PlaceTrees.{AreKeptTrees}
 use Rattle.ch_engine.specs.TableSums.{AreBranches}
-use Rattle.ch_engine.proofs.Joints.{AreAsked, kept_more, kept_still, mapped}
+use Rattle.ch_engine.proofs.NearTrees.{AreAsked, kept_more, kept_still, mapped}
 use Rattle.ch_engine.proofs.engine.Engine.need_tree.Goals as goal
 
 pub invariant_of-self-2 : goal.invariant_of-self-2
@@ -54,4 +54,4 @@ invariant_of-self-2 c =
     c.in-Some.trees c.push.new.self (mapped (AreAsked direction places) c.self.inside.kept inv.3)
     (get_or_read places _ _ low c.index-node.ensures 0)
     (ap (option_map (λ sums. values_of (arc_value sums))) c.in-Some-values.is) made c.push.ensures known in
-    (c.find_branches.ensures.scratch ∙ inv.0, inv.1, inv.2, inv.3, inv.4, inv.5, inv.6, more, inv.8, inv.9)
+    (c.find_branches.ensures.scratch ∙ inv.0, inv.1, inv.2, inv.3, inv.4, inv.5, inv.6, more, inv.8)

@@ -17,4 +17,4 @@ invariant_of-result c =
     let kept : MatchOption values ⊤ (λ sums. AreKeptOfLines network.0 network.1 (arc_value sums)) =
     subst (λ (n : LevelsAndLegs × Lines). MatchOption values ⊤ (λ sums. AreKeptOfLines n.0 n.1 (arc_value sums)))
     (sym c.in_ok-network.ensures) (c.in_ok-values.ensures.sums before.0 before.1 c.self.invariant.4) in
-    (scratch, by_tree, tt, tt, kept, tt, tt, tt, tt, search rules)
+    (scratch, by_tree, tt, tt, kept, tt, tt, tt, search rules)

@@ -9,7 +9,7 @@ use Rattle.ch_engine.specs.Held.{Held}
 use Rattle.ch_engine.specs.LegSums.{values_of}
 use Rattle.ch_engine.specs.Lines.{Lines}
 use Rattle.ch_engine.specs.RouteSums.{IsOfSomePair, IsSumAlong}
-use Rattle.ch_engine.proofs.Joints.{AreAsked, along_kept, ends_told, mapped, place_low, route_told, route_too_large}
+use Rattle.ch_engine.proofs.NearTrees.{AreAsked, along_kept, ends_told, mapped, place_low, route_told, route_too_large}
 use Rattle.ch_engine.proofs.engine.Engine.sum_of_route.Goals as goal
 
 pub sum_along-requires-clause-route : goal.sum_along-requires-clause-route

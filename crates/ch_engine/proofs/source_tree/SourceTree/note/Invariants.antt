@@ -4,7 +4,6 @@ use Rattle.ch_engine.proofs.source_tree.SourceTree.note.Given as goal
 
 abbrev pub invariant-loop-branch : goal.invariant-loop-branch
 invariant-loop-branch l = record {
-  numbers : l.self.slots.numbers ≡ l.fn.self.slots.numbers;
   none : l.self.branches.items ≡ [];
   few : length l.self.slots.names ≤ l.branch-index;
   nodes : length l.self.slots.names ≡ l.branch-index →
