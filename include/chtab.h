@@ -135,12 +135,6 @@ typedef struct chtab_fault {
     uint32_t kind;  /* a chtab_fault_kind */
 } chtab_fault;
 
-/* The facts on a route beside its nodes. */
-typedef struct chtab_found {
-    uint64_t weight; /* the distance, or CHTAB_NO_DISTANCE if there is no walk */
-    uint64_t nodes;  /* the number of nodes of the route with both ends, or 0 if there is no walk */
-} chtab_found;
-
 /* Returns the version of the library. If you load the library at run time, first compare this with CHTAB_VERSION. */
 uint32_t chtab_version(void);
 
@@ -264,20 +258,14 @@ uint32_t chtab_distances(chtab *handle, const uint32_t *sources, size_t sources_
 uint32_t chtab_table(chtab *handle, const uint32_t *sources, size_t sources_len, const uint32_t *targets, size_t targets_len,
                      uint64_t limit, uint64_t *out, size_t out_len);
 
-/* Writes a walk of the least weight, and among these one with the fewest arcs. It writes the weight and the number of nodes
- * to `found`, and the nodes in order of travel to `nodes`, from `source` on. Room for as many nodes as the network has is
- * always enough. If there is no walk, it returns CHTAB_OK, found->weight is CHTAB_NO_DISTANCE and found->nodes is 0.
- * Errors: CHTAB_CLOSED, CHTAB_NODE_RANGE, CHTAB_NO_MEMORY; and CHTAB_TOO_SHORT, which writes `found` and leaves `nodes`.
- * Then call again with room for found->nodes. */
-uint32_t chtab_route(chtab *handle, uint32_t source, uint32_t target, chtab_found *found, uint32_t *nodes, size_t nodes_len);
-
-/* Writes the routes from sources[k] to targets[k], one after the other, and their number to `routes`. Each is the route
- * that chtab_route gives. weights[k] is its weight, or CHTAB_NO_DISTANCE if there is no walk. Its nodes are at the places
- * from ends[k - 1], or from 0 for the first route, up to ends[k] - 1. If there is no walk, it has no nodes. targets_len,
- * weights_len and ends_len are sources_len. lines_len is 0, or it is nodes_len if you ask for the lines of arcs too. Then
- * lines[j] is the line of the arc that leads to nodes[j]: its place among the arcs of the graph's file, counted from 0. Of
- * several arcs between two nodes it is the one of least weight, and of these the first. For the first node of a route
- * lines[j] is CHTAB_NO_LINE. With a value for each line you can add up any measure along routes.
+/* Writes the routes from sources[k] to targets[k], one after the other, and their number to `routes`. Each is a walk of the
+ * least weight, and among these one with the fewest arcs. weights[k] is its weight, or CHTAB_NO_DISTANCE if there is no walk.
+ * Its nodes are at the places from ends[k - 1], or from 0 for the first route, up to ends[k] - 1, in order of travel with both
+ * ends. If there is no walk, it has no nodes. targets_len, weights_len and ends_len are sources_len. lines_len is 0, or it is
+ * nodes_len if you ask for the lines of arcs too. Then lines[j] is the line of the arc that leads to nodes[j]: its place among
+ * the arcs of the graph's file, counted from 0. Of several arcs between two nodes it is the one of least weight, and of these
+ * the first. For the first node of a route lines[j] is CHTAB_NO_LINE. With a value for each line you can add up any measure
+ * along routes.
  * Errors: CHTAB_CLOSED, CHTAB_LENGTHS, CHTAB_NODE_RANGE. With CHTAB_TOO_SHORT or CHTAB_NO_MEMORY the first routes are
  * written, and `routes` is their number: there is not enough room or memory for the next route. Ask for the other pairs in
  * a further call. Room for as many nodes as the network has is always enough for one route. */
@@ -298,28 +286,20 @@ uint32_t chtab_route_sums(chtab *handle, const uint32_t *sources, size_t sources
                           size_t targets_len, const uint64_t *values, size_t values_len, uint64_t *pairs,
                           uint64_t *weights, size_t weights_len, uint64_t *sums, size_t sums_len);
 
-/* Writes the weights and the sums of a table, and the number of cells to `cells`. The route from sources[i] to targets[j] has
- * its weight in weights[i * targets_len + j], and the sum of the values on the lines of its arcs at the same place of `sums`,
- * both as chtab_route_sums gives them. weights_len and sums_len are sources_len times targets_len, and values_len is the number
- * of arcs of the graph's file. The call takes one search for each source and each target. It has a copy of the values with the
- * handle, and a word for each leg of the hierarchy: the first call with other values takes longer. Each call compares all values
- * with these, which takes most of the time of a small table: chtab_kept_table_sums does not.
- * Errors: CHTAB_CLOSED, CHTAB_LENGTHS, CHTAB_NODE_RANGE. With CHTAB_SUM_TOO_LARGE or CHTAB_NO_MEMORY the first cells are written,
- * row after row, and `cells` is their number: the sum of the next cell is 2^64 or more, or there is no memory for it. */
-uint32_t chtab_table_sums(chtab *handle, const uint32_t *sources, size_t sources_len, const uint32_t *targets,
-                          size_t targets_len, const uint64_t *values, size_t values_len, uint64_t *cells,
-                          uint64_t *weights, size_t weights_len, uint64_t *sums, size_t sums_len);
-
 /* Keeps a copy of a value for each line with the handle, in place of the values that it kept: values[j] is the value of line j,
  * and values_len is the number of arcs of the graph's file. The call takes some steps for each leg of the hierarchy, and keeps a
  * word for each. With the values that are kept already it compares them alone. You may free the values afterwards.
  * Errors: CHTAB_CLOSED, CHTAB_LENGTHS, CHTAB_NO_MEMORY. Then the values that were kept stay. */
 uint32_t chtab_keep_values(chtab *handle, const uint64_t *values, size_t values_len);
 
-/* Writes what chtab_table_sums writes for the values that chtab_keep_values keeps. It does not look at all of these, so that a
- * table takes about twice as long as with chtab_table, on a network of any size.
+/* Writes the weights and the sums of a table, and the number of cells to `cells`. The route from sources[i] to targets[j] has
+ * its weight in weights[i * targets_len + j], and at the same place of `sums` the sum of the values that chtab_keep_values keeps
+ * on the lines of its arcs, both as chtab_route_sums gives them. weights_len and sums_len are sources_len times targets_len. The
+ * call takes one search for each source and each target. It does not look at all values, so that a table takes about twice as
+ * long as with chtab_table, on a network of any size.
  * Errors: CHTAB_CLOSED, CHTAB_NO_VALUES, CHTAB_LENGTHS, CHTAB_NODE_RANGE. With CHTAB_SUM_TOO_LARGE or CHTAB_NO_MEMORY the first
- * cells are written, as with chtab_table_sums. */
+ * cells are written, row after row, and `cells` is their number: the sum of the next cell is 2^64 or more, or there is no memory
+ * for it. */
 uint32_t chtab_kept_table_sums(chtab *handle, const uint32_t *sources, size_t sources_len, const uint32_t *targets,
                                size_t targets_len, uint64_t *cells, uint64_t *weights, size_t weights_len, uint64_t *sums,
                                size_t sums_len);

@@ -86,7 +86,7 @@ def compare_names(tally):
 
 # The header's types for those of the library, and its names of parameters that have another one there.
 NAMES = {"second": "handle"}
-TYPES = {"u8": "uint8_t", "u32": "uint32_t", "u64": "uint64_t", "Handle": "chtab", "TopologyHandle": "chtab_topology", "Fault": "chtab_fault", "Found": "chtab_found"}
+TYPES = {"u8": "uint8_t", "u32": "uint32_t", "u64": "uint64_t", "Handle": "chtab", "TopologyHandle": "chtab_topology", "Fault": "chtab_fault"}
 
 
 def in_header(name, kind):
@@ -115,17 +115,16 @@ def fields(path, name):
 
 
 def compare_types(tally):
-    """Each function of the header has the parameters of the library's call, by order, name and type. The structures have the same members."""
+    """Each function of the header has the parameters of the library's call, by order, name and type. A fault has the same members."""
     text = re.sub(r"/\*.*?\*/", "", HEADER.read_text(), flags=re.DOTALL)
     declarations = {name: [] if listed == "void" else [" ".join(part.split()) for part in listed.split(",")]
                     for name, listed in re.findall(r"^uint32_t (chtab_\w+)\((.*?)\);", text, re.MULTILINE | re.DOTALL)}
     tally.expect(declarations.keys() == exports().keys() == declared(), f"the header has {sorted(declarations)}, the library {sorted(exports())}")
     for name, parameters in exports().items():
         tally.expect(declarations.get(name) == parameters, f"{name}: the header has {declarations.get(name)}, the library {parameters}")
-    for name, path, own in ("chtab_found", "answers.rt", "Found"), ("chtab_fault", "faults.rt", "Fault"):
-        listed = re.search(rf"typedef struct {name} {{(.*?)}}", text, re.DOTALL)[1]
-        members = [" ".join(part.split()) for part in listed.split(";") if part.strip()]
-        tally.expect(members == fields(SOURCES / path, own), f"{name}: the header has {members}, the library {fields(SOURCES / path, own)}")
+    listed, owed = re.search(r"typedef struct chtab_fault {(.*?)}", text, re.DOTALL)[1], fields(SOURCES / "faults.rt", "Fault")
+    members = [" ".join(part.split()) for part in listed.split(";") if part.strip()]
+    tally.expect(members == owed, f"chtab_fault: the header has {members}, the library {owed}")
 
 
 def flags():
@@ -318,26 +317,9 @@ def refuse_large_route_sums(tally, library):
     library.close(handle)
 
 
-def refuse_large_table_sums(tally, library):
-    """A sum of 2^64 or more in a table ends the call before its cell. One less is given. Lengths come before nodes."""
-    status, handle, _ = library.open(LINE, OF_LINE)
-    half = 2**63
-    told = library.table_sums(handle, [0, 2], [1, 2], [half, half - 1])
-    tally.expect(told == (0, 4, [4, 9, NO_DISTANCE, 0], [half, 2**64 - 1, 0, 0]), f"the greatest sums of a table: {told}")
-    told = library.table_sums(handle, [1, 0], [1, 2], [half, half])
-    tally.expect(told == (STATUS["SUM_TOO_LARGE"], 3, [0, 5, 4, 7], [0, half, half, 7]), f"a sum of a table that is too large: {told}")
-    for sources, targets, values, rooms, name in (
-        ([9], [0, 0], [1, 1], (1, 2), "LENGTHS"), ([9], [0], [1, 1], (1, 2), "LENGTHS"), ([9], [0], [1], (1, 1), "LENGTHS"),
-        ([3], [0], [1, 1], (1, 1), "NODE_RANGE"), ([0], [3], [1, 1], (1, 1), "NODE_RANGE"), ([], [0], [1, 1], (0, 0), "OK"), ([0], [], [1, 1], (0, 0), "OK"),
-    ):
-        told = library.table_sums(handle, sources, targets, values, *rooms)
-        tally.expect(told == (STATUS[name], 7 if STATUS[name] else 0, [7] * rooms[0], [7] * rooms[1]), f"a table of sums {sources} {targets} {values}: {told}")
-    tally.expect(library.table_sums(Handle(), [0], [1], [1, 1])[0] == STATUS["CLOSED"], "a table of sums by a closed handle")
-    library.close(handle)
-
-
 def refuse_kept_sums(tally, library):
-    """Values stay until others are kept, whatever is refused, and whatever other handles keep. Kept values come before lengths, and lengths before nodes."""
+    """Values stay until others are kept, whatever is refused, and whatever other handles keep. Kept values come before lengths, and lengths before nodes. A
+    sum of 2^64 or more ends the call before its cell, and one less is given."""
     status, handle, _ = library.open(LINE, OF_LINE)
     asked, half, other = ([0, 2], [1, 2]), 2**63, Handle()
     owed = 0, 4, [4, 9, NO_DISTANCE, 0], [half, 2**64 - 1, 0, 0]
@@ -346,10 +328,11 @@ def refuse_kept_sums(tally, library):
         tally.expect(library.keep_values(handle, values) == STATUS[name], f"values {values} that are to be kept")
         told = library.kept_table_sums(handle, *asked)
         tally.expect(told == owed, f"the sums of kept values, after {values}: {told}")
-        tally.expect(library.table_sums(handle, *asked, [1, 2]) == (0, 4, owed[2], [1, 3, 0, 0]), "the sums of other values")
+        told = library.route_sums(handle, [0, 0, 2, 2] * 3, [1, 2, 1, 2] * 3, [1, 2])
+        tally.expect(told == (0, 12, owed[2] * 3, [1, 3, 0, 0] * 3), f"the sums of other values: {told}")
     for sources, targets, rooms, name in (
-        ([9], [0], (1, 2), "LENGTHS"), ([9], [0], (2, 1), "LENGTHS"), ([3], [0], (1, 1), "NODE_RANGE"), ([0], [3], (1, 1), "NODE_RANGE"),
-        ([], [0], (0, 0), "OK"), ([0], [], (0, 0), "OK"),
+        ([9], [0], (1, 2), "LENGTHS"), ([9], [0], (2, 1), "LENGTHS"), ([9], [0, 0], (1, 2), "LENGTHS"), ([3], [0], (1, 1), "NODE_RANGE"),
+        ([0], [3], (1, 1), "NODE_RANGE"), ([], [0], (0, 0), "OK"), ([0], [], (0, 0), "OK"),
     ):
         told = library.kept_table_sums(handle, sources, targets, *rooms)
         tally.expect(told == (STATUS[name], 7 if STATUS[name] else 0, [7] * rooms[0], [7] * rooms[1]), f"sums of kept values {sources} {targets}: {told}")
@@ -561,7 +544,6 @@ def main():
     refuse_large_sums(tally, library)
     refuse_cells(tally, library)
     refuse_large_route_sums(tally, library)
-    refuse_large_table_sums(tally, library)
     refuse_kept_sums(tally, library)
     refuse_summed_rows(tally, library)
     refuse_large_flows(tally, library)

@@ -135,9 +135,7 @@ def compare_table_sums(tally, library, graph, hierarchy):
         sums = [sum(values[line] for line in lines[begin + 1:end]) for begin, end in zip([0, *ends], ends)]
         told = library.route_sums(handle, sources, targets, values)
         tally.expect(told == (0, len(sources), weights, sums), f"{graph.name}: sums along the routes of a table")
-        told = library.table_sums(handle, rows, columns, values)
-        tally.expect(told == (0, len(sources), weights, sums), f"{graph.name}: a table of sums along routes")
-        told = library.keep_values(handle, values), library.table_sums(handle, rows, columns, second), library.kept_table_sums(handle, rows, columns)
+        told = library.keep_values(handle, values), library.route_sums(handle, sources, targets, second), library.kept_table_sums(handle, rows, columns)
         tally.expect((told[0], told[2]) == (0, (0, len(sources), weights, sums)), f"{graph.name}: a table of sums of kept values")
     library.close(handle)
 

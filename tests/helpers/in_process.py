@@ -41,10 +41,6 @@ class Fault(ctypes.Structure):
         return self.line, self.place, self.kind
 
 
-class Found(ctypes.Structure):
-    _fields_ = [("weight", ctypes.c_uint64), ("nodes", ctypes.c_uint64)]
-
-
 def statuses():
     """The names of `chtab_status` with their numbers, as the header has them."""
     body = re.search(r"enum chtab_status \{(.*?)\}", HEADER.read_text(), re.DOTALL).group(1)
@@ -161,11 +157,10 @@ class Library:
         return status, list(out)[:room]
 
     def route(self, handle, source, target, room):
-        """The status, the weight, the number of nodes, and what stands in the room."""
-        found, nodes = Found(7, 7), numbers([7] * (room + 1))
-        status = self.calls.chtab_route(ctypes.byref(handle), ctypes.c_uint32(source), ctypes.c_uint32(target), ctypes.byref(found), nodes, ctypes.c_size_t(room))
-        assert nodes[room] == 7, "a node past the room is written"
-        return status, found.weight, found.nodes, list(nodes)[:room]
+        """Of the route of one pair the status, the weight, the number of nodes, and what stands in the room."""
+        status, routes, weights, ends, nodes, _ = self.routes(handle, [source], [target], room)
+        assert routes in ((0, 7) if status else (1,)), "the number of routes"
+        return status, weights[0], ends[0], nodes
 
     def many(self, call, handle, lists, rooms):
         """What a call answers of many questions: the status, their number, and its arrays, in which 7 stands where nothing was written. `lists` are
@@ -189,18 +184,11 @@ class Library:
         rooms = [(len(sources) if length is None else length, ctypes.c_uint64) for length in (weights_room, sums_room)]
         return self.many(self.calls.chtab_route_sums, handle, lists, rooms)
 
-    def table_sums(self, handle, sources, targets, values, weights_room=None, sums_room=None):
-        """The status, the number of cells, and the weights and sums of all cells, row after row."""
-        lists = [(sources, ctypes.c_uint32), (targets, ctypes.c_uint32), (values, ctypes.c_uint64)]
-        cells = len(sources) * len(targets)
-        rooms = [(cells if length is None else length, ctypes.c_uint64) for length in (weights_room, sums_room)]
-        return self.many(self.calls.chtab_table_sums, handle, lists, rooms)
-
     def keep_values(self, handle, values):
         return self.calls.chtab_keep_values(ctypes.byref(handle), numbers(values, ctypes.c_uint64), ctypes.c_size_t(len(values)))
 
     def kept_table_sums(self, handle, sources, targets, weights_room=None, sums_room=None):
-        """The same as of `table_sums`, for the values that are kept."""
+        """The status, the number of cells, and the weights and sums of all cells, row after row."""
         cells = len(sources) * len(targets)
         rooms = [(cells if length is None else length, ctypes.c_uint64) for length in (weights_room, sums_room)]
         return self.many(self.calls.chtab_kept_table_sums, handle, [(sources, ctypes.c_uint32), (targets, ctypes.c_uint32)], rooms)

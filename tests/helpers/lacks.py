@@ -8,7 +8,7 @@ from helpers.running import ROOT
 PLACES = {
     "ch_c/src/answers.rt": 5, "ch_c/src/opening.rt": 1, "ch_c/src/topology.rt": 4,
     "ch_engine/src/engine.rt": 1, "ch_engine/src/flows.rt": 2, "ch_engine/src/near.rt": 2, "ch_engine/src/near_sums.rt": 11,
-    "ch_engine/src/route_sums.rt": 1, "ch_engine/src/routes.rt": 1, "ch_engine/src/sums.rt": 2, "ch_engine/src/table_sums.rt": 6,
+    "ch_engine/src/route_sums.rt": 1, "ch_engine/src/routes.rt": 1, "ch_engine/src/sums.rt": 2, "ch_engine/src/table_sums.rt": 5,
     "ch_engine/src/topology.rt": 1,
     "ch_flows/src/pairs.rt": 2, "ch_flows/src/table.rt": 7, "ch_lists/src/lists.rt": 1,
     "ch_lists/src/place.rt": 1, "ch_query/src/weights/search.rt": 1,

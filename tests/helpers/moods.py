@@ -13,7 +13,7 @@ FOLDER = tempfile.TemporaryDirectory()
 STANDIN = Path(FOLDER.name) / "chtab"
 HELD = Path("held")
 # The calls that ask something, of which `standin.c` counts each.
-QUESTIONS = {"chtab_distances", "chtab_table", "chtab_kept_table_sums", "chtab_route", "chtab_routes", "chtab_route_sums", "chtab_near_places"}
+QUESTIONS = {"chtab_distances", "chtab_table", "chtab_kept_table_sums", "chtab_routes", "chtab_route_sums", "chtab_near_places"}
 
 
 def build():

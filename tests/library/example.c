@@ -32,22 +32,29 @@ static uint8_t *bytes_of(const char *path, size_t *len) {
     return bytes;
 }
 
+/* The route of one pair, with its weight and the number of its nodes. A call that is refused leaves the number of routes too. */
+static uint32_t route_of(chtab *network, uint32_t source, uint32_t target, uint64_t *weight, uint64_t *length, uint32_t *nodes, size_t room) {
+    uint64_t routes = 9;
+    uint32_t status = chtab_routes(network, &source, 1, &target, 1, &routes, weight, 1, length, 1, nodes, room, nodes, 0);
+    expect(routes == (status == CHTAB_OK ? 1 : status == CHTAB_TOO_SHORT ? 0 : 9), "the number of routes");
+    return status;
+}
+
 static void ask(chtab *network) {
     static uint32_t nodes[100000];
     uint32_t sources[2] = {0, 1}, targets[2], count = 0, k;
-    uint64_t pairs[2], cells[4];
-    chtab_found found;
+    uint64_t pairs[2], cells[4], weight, length;
     expect(chtab_nodes(network, &count) == CHTAB_OK && count > 1, "nodes");
     targets[0] = count - 1;
     targets[1] = count / 2;
     expect(chtab_distances(network, sources, 2, targets, 2, pairs, 2) == CHTAB_OK, "distances");
     expect(chtab_table(network, sources, 2, targets, 2, CHTAB_NO_LIMIT, cells, 4) == CHTAB_OK, "table");
     expect(cells[0] == pairs[0] && cells[3] == pairs[1], "a cell is the distance of its pair");
-    expect(chtab_route(network, sources[0], targets[0], &found, nodes, 100000) == CHTAB_OK, "route");
-    expect(found.weight == pairs[0], "a route weighs the distance");
+    expect(route_of(network, sources[0], targets[0], &weight, &length, nodes, 100000) == CHTAB_OK, "route");
+    expect(weight == pairs[0], "a route weighs the distance");
     printf("nodes %lu distances %lu %lu cells %lu %lu route", (unsigned long)count, (unsigned long)pairs[0], (unsigned long)pairs[1],
            (unsigned long)cells[1], (unsigned long)cells[2]);
-    for (k = 0; k < found.nodes; k++) printf(" %lu", (unsigned long)nodes[k]);
+    for (k = 0; k < length; k++) printf(" %lu", (unsigned long)nodes[k]);
     printf("\n");
 }
 
@@ -87,8 +94,7 @@ static void ask_near(chtab *network) {
 static void ask_routes(chtab *network) {
     static uint32_t nodes[100000], way[100000], lines[100000];
     uint32_t sources[2] = {0, 1}, targets[2], count = 0, k;
-    uint64_t routes = 9, weights[2] = {5, 5}, ends[2] = {5, 5}, begin, end;
-    chtab_found found;
+    uint64_t routes = 9, weights[2] = {5, 5}, ends[2] = {5, 5}, begin, end, weight, length;
     expect(chtab_nodes(network, &count) == CHTAB_OK, "nodes");
     targets[0] = count / 2;
     targets[1] = count - 1;
@@ -98,8 +104,8 @@ static void ask_routes(chtab *network) {
     for (k = 0; k < 2; k++) {
         begin = k ? ends[0] : 0;
         end = ends[k];
-        expect(chtab_route(network, sources[k], targets[k], &found, way, 100000) == CHTAB_OK && found.weight == weights[k], "one route");
-        expect(found.nodes == end - begin && !memcmp(way, nodes + begin, (size_t)(end - begin) * sizeof *way), "the nodes of one route");
+        expect(route_of(network, sources[k], targets[k], &weight, &length, way, 100000) == CHTAB_OK && weight == weights[k], "one route");
+        expect(length == end - begin && !memcmp(way, nodes + begin, (size_t)(end - begin) * sizeof *way), "the nodes of one route");
     }
     expect(chtab_routes(network, sources, 2, targets, 2, &routes, weights, 2, ends, 2, nodes, (size_t)ends[1] - 1, way, 0) == CHTAB_TOO_SHORT && routes == 1, "room for one route");
 }
@@ -108,9 +114,8 @@ static void ask_routes(chtab *network) {
 static void ask_route_sums(chtab *network, size_t arcs) {
     static uint32_t nodes[100000];
     uint32_t sources[2] = {0, 0}, targets[2] = {0, 0}, count = 0;
-    uint64_t *values = (uint64_t *)malloc(arcs * sizeof *values), weights[2] = {5, 5}, sums[2] = {5, 5}, pairs = 9;
+    uint64_t *values = (uint64_t *)malloc(arcs * sizeof *values), weights[2] = {5, 5}, sums[2] = {5, 5}, pairs = 9, weight, length;
     size_t k;
-    chtab_found found;
     if (!values) exit(2);
     for (k = 0; k < arcs; k++) values[k] = 1;
     expect(chtab_nodes(network, &count) == CHTAB_OK, "nodes");
@@ -118,7 +123,7 @@ static void ask_route_sums(chtab *network, size_t arcs) {
     expect(chtab_route_sums(network, sources, 2, targets, 2, values, arcs - 1, &pairs, weights, 2, sums, 2) == CHTAB_LENGTHS && pairs == 9 && weights[0] == 5 && sums[0] == 5,
            "a value too few");
     expect(chtab_route_sums(network, sources, 2, targets, 2, values, arcs, &pairs, weights, 2, sums, 2) == CHTAB_OK && pairs == 2, "sums along routes");
-    expect(chtab_route(network, 0, count - 1, &found, nodes, 100000) == CHTAB_OK && found.weight == weights[1] && found.nodes == sums[1] + 1, "the arcs of a route");
+    expect(route_of(network, 0, count - 1, &weight, &length, nodes, 100000) == CHTAB_OK && weight == weights[1] && length == sums[1] + 1, "the arcs of a route");
     expect(weights[0] == 0 && sums[0] == 0 && sums[1] > 1, "no arcs to the same node");
     for (k = 0; k < arcs; k++) values[k] = CHTAB_NO_LIMIT;
     expect(chtab_route_sums(network, sources, 2, targets, 2, values, arcs, &pairs, weights, 2, sums, 2) == CHTAB_SUM_TOO_LARGE && pairs == 1, "a sum along a route too large");
@@ -189,20 +194,19 @@ static void open_like(chtab *network, const uint8_t *graph, size_t graph_len) {
 
 static void ask_wrongly(chtab *network) {
     uint32_t node = 0, past = 0, nodes[1] = {7};
-    uint64_t out[2] = {5, 5};
-    chtab_found found = {3, 3};
+    uint64_t out[2] = {5, 5}, weight = 3, length = 3;
     expect(chtab_nodes(network, &past) == CHTAB_OK, "nodes");
     expect(chtab_distances(network, &past, 1, &node, 1, out, 1) == CHTAB_NODE_RANGE, "a source past the nodes");
     expect(chtab_distances(network, &node, 1, &node, 1, out, 2) == CHTAB_LENGTHS, "lengths of distances");
     expect(chtab_table(network, &node, 1, &past, 1, 0, out, 1) == CHTAB_NODE_RANGE, "a target past the nodes");
     expect(chtab_table(network, &node, 1, &node, 1, 0, out, 2) == CHTAB_LENGTHS, "lengths of a table");
-    expect(chtab_route(network, past, node, &found, nodes, 1) == CHTAB_NODE_RANGE, "a route from past the nodes");
-    expect(out[0] == 5 && out[1] == 5 && found.weight == 3 && found.nodes == 3 && nodes[0] == 7, "a refusal writes nothing");
+    expect(route_of(network, past, node, &weight, &length, nodes, 1) == CHTAB_NODE_RANGE, "a route from past the nodes");
+    expect(out[0] == 5 && out[1] == 5 && weight == 3 && length == 3 && nodes[0] == 7, "a refusal writes nothing");
     expect(chtab_near_rows(network, &node, 1, out, out, 0, out, 1, nodes, 1) == CHTAB_LENGTHS, "lengths of ends");
     expect(chtab_near_rows(network, &node, 1, out, out, 1, out, 2, nodes, 1) == CHTAB_LENGTHS, "lengths of near rows");
     expect(out[0] == 5 && out[1] == 5 && nodes[0] == 7, "a refusal writes no row");
-    expect(chtab_route(network, node, node, &found, nodes, 0) == CHTAB_TOO_SHORT && found.nodes == 1 && nodes[0] == 7, "no room");
-    expect(chtab_route(network, node, node, &found, nodes, 1) == CHTAB_OK && found.weight == 0 && nodes[0] == 0, "a route of one node");
+    expect(route_of(network, node, node, &weight, &length, nodes, 0) == CHTAB_TOO_SHORT && weight == 3 && length == 3 && nodes[0] == 7, "no room");
+    expect(route_of(network, node, node, &weight, &length, nodes, 1) == CHTAB_OK && weight == 0 && length == 1 && nodes[0] == 0, "a route of one node");
 }
 
 int main(int count, char **words) {

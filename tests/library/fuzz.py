@@ -305,8 +305,8 @@ class Caller:
             self.expect((status, weight, count, nodes) == (STATUS["OK"], NO_DISTANCE, 0, untouched), *told)
         else:
             least, arcs = self.away[source][target]
-            self.expect((weight, count) == (least, arcs + 1) and status == STATUS["OK" if count <= room else "TOO_SHORT"], *told)
-            self.expect(self.is_way(nodes[:count], least) if count <= room else nodes == untouched, *told)
+            owed = (STATUS["OK"], least, arcs + 1) if arcs < room else (STATUS["TOO_SHORT"], 7, 7)
+            self.expect((status, weight, count) == owed and (self.is_way(nodes[:count], least) if arcs < room else nodes == untouched), *told)
 
     def keep_places(self):
         handle, places = self.draw.choice(self.handles), self.nodes()
@@ -446,6 +446,10 @@ class Caller:
         targets = [self.node() for _ in sources] if self.draw.random() < 0.9 else self.nodes()
         values = [self.draw.choice((0, 1, 9, 2**62, 2**63)) for _ in range(len(self.arcs) + (self.draw.random() < 0.1))]
         rooms = [len(sources) if self.draw.random() < 0.9 else self.draw.randrange(9) for _ in range(2)]
+        self.see_route_sums(handle, sources, targets, values, rooms)
+
+    def see_route_sums(self, handle, sources, targets, values, rooms):
+        """What the call gives of these pairs."""
         told = self.library.route_sums(handle, sources, targets, values, *rooms)
         wanted = "OK"
         if not handle.is_open:
@@ -478,22 +482,21 @@ class Caller:
             self.values[id(handle)] = values
 
     def ask_kept_sums(self):
-        """A table of the kept values, or of given ones, which does not change what is kept."""
+        """A table of the kept values, at times after sums of other values, which do not change what is kept. These repeat each pair, since only many pairs
+        have trees."""
         handle, sources, targets = self.draw.choice(self.handles), self.nodes(), self.nodes()
-        cells, values = len(sources) * len(targets), self.values.get(id(handle))
+        pairs = [source for source in sources for _ in targets], targets * len(sources)
+        cells, values = len(pairs[0]), self.values.get(id(handle))
         if self.draw.random() < 0.3:
-            other = [self.draw.choice((0, 1, 9)) for _ in self.arcs]
-            told, wanted = self.library.table_sums(handle, sources, targets, other), "OK" if handle.is_open else "CLOSED"
-            values, rooms = other, [cells, cells]
-        else:
-            rooms = [cells if self.draw.random() < 0.9 else self.draw.randrange(9) for _ in range(2)]
-            told = self.library.kept_table_sums(handle, sources, targets, *rooms)
-            wanted = "CLOSED" if not handle.is_open else "NO_VALUES" if values is None else "OK" if rooms == [cells, cells] else "LENGTHS"
+            self.see_route_sums(handle, pairs[0] * 6, pairs[1] * 6, [self.draw.choice((0, 1, 9)) for _ in self.arcs], [6 * cells] * 2)
+        rooms = [cells if self.draw.random() < 0.9 else self.draw.randrange(9) for _ in range(2)]
+        told = self.library.kept_table_sums(handle, sources, targets, *rooms)
+        wanted = "CLOSED" if not handle.is_open else "NO_VALUES" if values is None else "OK" if rooms == [cells, cells] else "LENGTHS"
         if wanted == "OK" and not self.are_nodes(sources, targets):
             wanted = "NODE_RANGE"
         owed = STATUS[wanted], 7, *([7] * length for length in rooms)
         if wanted == "OK":
-            owed = self.owed_sums(handle, [source for source in sources for _ in targets], targets * len(sources), values)
+            owed = self.owed_sums(handle, *pairs, values)
         self.expect(told == owed, "a table of sums", sources, targets, values, owed, told)
 
     def ask_flows(self):

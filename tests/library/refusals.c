@@ -55,7 +55,6 @@ static struct {
     size_t graph_len, saved_len;
     chtab network, other;
     chtab_topology topology, second;
-    chtab_found found;
     uint32_t ends[8], targets[8];
     uint32_t nodes[MOST_NODES];
     uint32_t lines[MOST_NODES];
@@ -149,11 +148,11 @@ static uint32_t make_table(void) {
 }
 
 static uint32_t find_route(void) {
+    uint64_t routes = 9, weight = 3, length = 3;
     uint32_t status;
-    g.found.weight = 3;
     g.nodes[0] = 7;
-    status = chtab_route(&g.network, g.ends[0], g.ends[7], &g.found, g.nodes, MOST_NODES);
-    if (status) expect(g.found.weight == 3 && g.nodes[0] == 7, "a route stays");
+    status = chtab_routes(&g.network, g.ends, 1, g.ends + 7, 1, &routes, &weight, 1, &length, 1, g.nodes, MOST_NODES, g.lines, 0);
+    expect(status ? !routes && weight == 3 && length == 3 && g.nodes[0] == 7 : routes == 1, "a route, or nothing of it");
     return status;
 }
 
@@ -226,9 +225,9 @@ static uint64_t distance_of(uint32_t source, uint32_t target) {
 
 /* The arcs of a route. */
 static uint64_t arcs_between(uint32_t source, uint32_t target) {
-    chtab_found found;
-    expect(chtab_route(&g.network, source, target, &found, g.nodes, MOST_NODES) == CHTAB_OK, "a route");
-    return found.nodes ? found.nodes - 1 : 0;
+    uint64_t routes, weight, length = 0;
+    expect(chtab_routes(&g.network, &source, 1, &target, 1, &routes, &weight, 1, &length, 1, g.nodes, MOST_NODES, g.lines, 0) == CHTAB_OK, "a route");
+    return length ? length - 1 : 0;
 }
 
 /* Where a route is refused memory, those before it are written, and the next call gives the others. */

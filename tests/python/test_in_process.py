@@ -35,7 +35,7 @@ def test_declarations_are_those_of_the_header():
         "size_t ": {ctypes.c_size_t}, "uint32_t ": {ctypes.c_uint32}, "uint64_t ": {ctypes.c_uint64}, "const uint8_t *": {ctypes.c_char_p},
         "const uint32_t *": {column}, "const uint64_t *": {column}, "uint64_t *": {column, rows}, "uint32_t *": {column, one}, "uint8_t *": {column},
     }
-    assert {*library.CALLS, "chtab_version", "chtab_route", "chtab_topology_open", "chtab_table_sums"} == declared()
+    assert {*library.CALLS, "chtab_version", "chtab_topology_open"} == declared()
     for name, given in library.CALLS.items():
         words = re.search(rf"uint32_t {name}\((.*?)\);", text, re.DOTALL).group(1)
         told = [re.fullmatch(r"(.*?)\w+", " ".join(word.split())).group(1) for word in words.split(",")]

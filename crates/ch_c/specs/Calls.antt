@@ -1,12 +1,10 @@
 -- The results of the calls for C, and the state after them.
-use Rattle.std.specs.Prelude.{◌≡◌, ◌⊎◌, ℕ, zero, suc, IsSome, ◌+◌, ◌*◌, ◌<◌, ◌≤◌, List, [], length, take, slice_index, slice_index_or}
+use Rattle.std.specs.Prelude.{◌≡◌, ◌⊎◌, ℕ, zero, suc, IsSome, ◌*◌, ◌<◌, ◌≤◌, List, [], length, take}
 use Rattle.std.specs.Prelude.{Option, Some, None}
-use Rattle.ch_graph.specs.declared.arc.InArc.{InArc}
 use Rattle.ch_graph.specs.declared.graph.GraphFault.{GraphFault}
 use Rattle.ch_hierarchy.specs.declared.fault.CheckFault.{CheckFault}
 use Rattle.ch_hierarchy.specs.Hierarchy.{LevelsAndLegs, nodes_of}
 use Rattle.ch_read.specs.declared.fault.FaultKind.{FaultKind}
-use Rattle.ch_query.specs.declared.routes.Route.{Route}
 use Rattle.ch_text.specs.SaveText.{IsHierarchyText}
 use Rattle.ch_engine.specs.declared.fault.OpenError.{OpenError}
 use Rattle.ch_engine.specs.declared.fault.Refusal.{Refusal}
@@ -23,21 +21,19 @@ use Rattle.ch_engine.specs.NearRows.{AreRowsWritten, StaysFrom, begin_of}
 use Rattle.ch_engine.specs.NearSums.{AreSummedRowsWritten}
 use Rattle.ch_engine.specs.NearTable.{AreCellsWritten, places_of}
 use Rattle.ch_engine.specs.Opened.{IsOpened, IsOpenedLike, IsOpenedOfArrays, IsOpenedQuickly}
-use Rattle.ch_engine.specs.Routes.{AreRoutesWritten, IsFound}
+use Rattle.ch_engine.specs.Routes.{AreRoutesWritten}
 use Rattle.ch_engine.specs.RouteSums.{ArePairSumsWritten}
 use Rattle.ch_engine.specs.Sums.{AreSumsWritten}
-use Rattle.ch_engine.specs.TableSums.{AreKeptSumsWritten, AreTableSumsWritten}
-use Rattle.ch_engine.specs.Cells.{ArePairCells, AreTableCells, no_distance}
+use Rattle.ch_engine.specs.TableSums.{AreKeptSumsWritten}
+use Rattle.ch_engine.specs.Cells.{ArePairCells, AreTableCells}
 use Rattle.ch_engine.specs.Refusals.{AreFlowLengths, AreFlowTableLengths, IsRefusalOfFlowTable, IsRefusalOfFlows}
 use Rattle.ch_engine.specs.Refusals.{AreNodes, ArePairs, ArePairSumLengths, ArePlaces, AreRouteLengths, AreRowSources}
-use Rattle.ch_engine.specs.Refusals.{AreSumSources, AreTableLists, IsLikeError, IsNodePair, IsOpenError, IsRefusalOfPairs}
-use Rattle.ch_engine.specs.Refusals.{IsRefusalOfPairSums, IsRefusalOfPlaces, IsRefusalOfRoute, IsRefusalOfRoutes, IsRefusalOfRows}
-use Rattle.ch_engine.specs.Refusals.{AreCellSources, AreTableSumLengths, IsRefusalOfCells, IsRefusalOfTableSums}
-use Rattle.ch_engine.specs.Refusals.{IsRefusalOfSums, IsRefusalOfSweep, IsRefusalOfTable, IsArraysOpenError}
+use Rattle.ch_engine.specs.Refusals.{AreSumSources, AreTableLists, IsLikeError, IsOpenError, IsRefusalOfPairs}
+use Rattle.ch_engine.specs.Refusals.{IsRefusalOfPairSums, IsRefusalOfPlaces, IsRefusalOfRoutes, IsRefusalOfRows}
+use Rattle.ch_engine.specs.Refusals.{AreCellSources, IsRefusalOfCells, IsRefusalOfSums, IsRefusalOfSweep, IsRefusalOfTable}
 use Rattle.ch_engine.specs.Refusals.{AreKeptSumLists, AreSummedRowSources, IsRefusalOfKeptSums, IsRefusalOfSummedRows}
-use Rattle.ch_engine.specs.Refusals.{IsRefusalOfValues}
+use Rattle.ch_engine.specs.Refusals.{IsArraysOpenError, IsRefusalOfValues}
 use Rattle.ch_c.specs.declared.faults.Fault.{Fault}
-use Rattle.ch_c.specs.declared.answers.Found.{Found}
 use Rattle.ch_c.specs.declared.status.TheConstants.{OK, NO_MEMORY, CLOSED, IS_OPEN, NODE_RANGE, LENGTHS, TOO_LARGE, TOO_SHORT}
 use Rattle.ch_c.specs.declared.status.TheConstants.{BAD_GRAPH, BAD_SAVED, WRONG_SAVED, NO_PLACES, SUM_TOO_LARGE, OTHER_NODES}
 use Rattle.ch_c.specs.declared.status.TheConstants.{FRESH_RANGE, NO_VALUES}
@@ -123,27 +119,6 @@ abbrev pub IsTableAnswered : LevelsAndLegs → ℕ → List ℕ → List ℕ →
 IsTableAnswered H limit sources targets before after status =
     IsOutcome status (AreTableLists (nodes_of H) sources targets (length before) × AreTableCells H (Some limit) sources targets
     after) (λ refusal. (after ≡ before) × IsRefusalOfTable (nodes_of H) sources targets (length before) refusal)
-
--- the nodes of a route from s: s, and then the end of each arc
-abbrev pub AreRouteNodes : ℕ → List InArc → List ℕ → Type 0
-AreRouteNodes s arcs nodes = (slice_index nodes 0 ≡ s)
-    × ((k : ℕ) (d : InArc) → k < length arcs → slice_index nodes (k + 1) ≡ (slice_index_or arcs k d).to)
-
--- the weight of a route and its number of nodes are written, and its nodes if there is room. Behind them all is as
--- before
-abbrev pub IsRouteTold : ℕ → Option Route → Found → List ℕ → List ℕ → ℕ → Type 0
-IsRouteTold s None found before after status = (status ≡ OK) × (found.weight ≡ no_distance) × (found.nodes ≡ 0) × (after ≡ before)
-IsRouteTold s (Some route) found before after status = (found.weight ≡ route.weight) × (found.nodes ≡ length route.arcs + 1)
-    × (((status ≡ OK) × (length route.arcs < length after) × AreRouteNodes s route.arcs after × StaysFrom (length route.arcs + 1)
-    before after) ⊎ ((status ≡ TOO_SHORT) × (length before ≤ length route.arcs) × (after ≡ before)))
-
--- the route between two nodes is written, and has at most as many nodes as the network; or it is refused
-abbrev pub IsRouteAnswered : LevelsAndLegs → ℕ → ℕ → Found → Found → List ℕ → List ℕ → ℕ → Type 0
-IsRouteAnswered H s t found_before found before after status =
-    ((answer : Option Route) × IsNodePair (nodes_of H) s t × IsFound H s t answer × (found.nodes ≤ nodes_of H)
-    × IsRouteTold s answer found before after status)
-    ⊎ ((refusal : Refusal) × (status ≡ refusal_status refusal) × (found ≡ found_before) × (after ≡ before)
-    × IsRefusalOfRoute (nodes_of H) s t refusal)
 
 -- the length of the hierarchy's text is written, and the text if there is room. Behind it all is as before
 abbrev pub IsTextTold : LevelsAndLegs → ℕ → List ℕ → List ℕ → ℕ → Type 0
@@ -335,19 +310,6 @@ ArePairSumsAnswered held sources targets values before after status =
     × IsRefusalOfPairSums (nodes_of held.hierarchy) held.lines.count sources targets (length values) (length before.weights)
     (length before.sums) refusal)
 
--- sums along the routes of a table's cells, as far as there is memory, or they are refused and all is as before. Behind the
--- cells that are written all is as before
-abbrev pub AreTableSumsAnswered : Held → List ℕ → List ℕ → List ℕ → PairSumArrays → PairSumArrays → ℕ → Type 0
-AreTableSumsAnswered held sources targets values before after status =
-    ((end : SumsEnd) × (status ≡ sums_status end) × AreTableSumLengths (length sources) (length targets) (length before.weights)
-    (length before.sums) (length values) held.lines.count
-    × (AreNodes (nodes_of held.hierarchy) sources × AreNodes (nodes_of held.hierarchy) targets)
-    × AreTableSumsWritten held sources targets values after.weights after.sums (record { count = after.pairs; end = end })
-    × (StaysFrom after.pairs before.weights after.weights × StaysFrom after.pairs before.sums after.sums))
-    ⊎ ((refusal : Refusal) × (status ≡ refusal_status refusal) × (after ≡ before)
-    × IsRefusalOfTableSums (nodes_of held.hierarchy) held.lines.count sources targets (length values) (length before.weights)
-    (length before.sums) refusal)
-
 -- values of the lines are kept in place of those before, or refused
 abbrev pub AreValuesKept : List ℕ → Held → Option Held → ℕ → Type 0
 AreValuesKept values held after status =
@@ -355,7 +317,8 @@ AreValuesKept values held after status =
     ⊎ ((refusal : Refusal) × (status ≡ refusal_status refusal) × (after ≡ Some held)
     × IsRefusalOfValues held.lines.count (length values) refusal)
 
--- sums of the kept values along the routes of a table's cells, in the same way
+-- sums of the kept values along the routes of a table's cells, as far as they fit and there is memory, or they are refused and all
+-- is as before. Behind the cells that are written all is as before
 abbrev pub AreKeptSumsAnswered : Held → List ℕ → List ℕ → PairSumArrays → PairSumArrays → ℕ → Type 0
 AreKeptSumsAnswered held sources targets before after status =
     ((end : SumsEnd) × (status ≡ sums_status end)

@@ -1,28 +1,15 @@
 //! The answers of an engine, as C sees them.
-ghost use Rattle.std.specs.Prelude.{◌≡◌, ◌+◌, ◌<◌, [], length, IfErr, IfOk, Option, None, Some};
+ghost use Rattle.std.specs.Prelude.{◌≡◌, [], IfErr, IfOk, None, Some};
 ghost use Rattle.ch_engine.specs.Held.{KeepsNothing, without_places};
-ghost use Rattle.ch_engine.specs.NearRows.{StaysFrom};
 ghost use Rattle.ch_hierarchy.specs.Hierarchy.{nodes_of};
 ghost use Rattle.ch_engine.specs.Opened.{IsOpened, IsOpenedLike, IsOpenedOfArrays, IsOpenedQuickly};
 ghost use Rattle.ch_engine.specs.Refusals.{IsArraysOpenError, IsLikeError, IsOpenError};
-ghost use Rattle.ch_c.specs.Calls.{AreFlowsAnswered, AreKeptSumsAnswered, AreTableFlowsAnswered, ArePairsAnswered, ArePairSumsAnswered, AreTableSumsAnswered, AreValuesKept, AreRouteNodes, AreRoutesAnswered, IsRouteAnswered, IsRouteTold, IsSaved, IsTableAnswered};
+ghost use Rattle.ch_c.specs.Calls.{AreFlowsAnswered, AreKeptSumsAnswered, AreTableFlowsAnswered, ArePairsAnswered, ArePairSumsAnswered, AreValuesKept, AreRoutesAnswered, IsSaved, IsTableAnswered};
 
 use crate::near::{status_of_end, status_of_sums};
 use crate::status::{NO_MEMORY, OK, SUM_TOO_LARGE, TOO_SHORT, status_of};
-use ch_engine::{Engine, Flowed, NO_DISTANCE, OpenError};
-use ch_graph::InArc;
-use ch_query::Route;
+use ch_engine::{Engine, Flowed, OpenError};
 use std::alloc::Global;
-
-/// The facts on a route beside its nodes.
-#[repr(C)]
-#[derive(Clone, Copy, Debug, PartialEq, Eq)]
-pub struct Found {
-    /// The sum of the weights of its arcs, or [`NO_DISTANCE`] if there is no route.
-    pub weight: u64,
-    /// The number of its nodes with both ends, or 0 if there is no route.
-    pub nodes: u64,
-}
 
 /// Opens an engine on the heap, from the bytes of a graph and of its saved hierarchy.
 ///
@@ -148,54 +135,6 @@ pub(crate) fn write_table(
     }
 }
 
-/// Writes the route from a node to another, and its nodes if there is room. Returns a status.
-pub(crate) fn write_route(
-    alloc: Global,
-    engine: &mut Engine,
-    source: u32,
-    target: u32,
-    found: &mut Found,
-    nodes: &mut [u32],
-) -> u32
-    ensures answered { IsRouteAnswered engine.old.hierarchy source target found.old found.new nodes.old nodes.new result }
-    ensures same { engine.new ≡ engine.old }
-{
-    match engine.route(alloc, source, target) {
-        Ok(answer) => tell_route(source, answer, found, nodes),
-        Err(refusal) => status_of(refusal),
-    }
-}
-
-fn tell_route(source: u32, answer: Option<Route>, found: &mut Found, nodes: &mut [u32]) -> u32
-    ensures { IsRouteTold source answer found.new nodes.old nodes.new result }
-{
-    let Some(route) = answer else {
-        found.weight = NO_DISTANCE;
-        found.nodes = 0;
-        return OK;
-    };
-    found.weight = route.weight;
-    found.nodes = route.arcs.len() as u64 + 1;
-    if route.arcs.len() >= nodes.len() {
-        return TOO_SHORT;
-    }
-    write_nodes(source, route.arcs.as_slice(), nodes);
-    OK
-}
-
-/// Writes the source, and then the end of each arc.
-fn write_nodes(source: u32, arcs: &[InArc], nodes: &mut [u32])
-    requires { length arcs.now < length nodes.old }
-    ensures nodes { AreRouteNodes source arcs.now nodes.new }
-    ensures behind { StaysFrom (length arcs.now + 1) nodes.old nodes.new }
-    ensures room { length nodes.new ≡ length nodes.old }
-{
-    nodes[0] = source;
-    for i in 0..arcs.len() {
-        nodes[i + 1] = arcs[i].to;
-    }
-}
-
 /// Writes the routes of pairs as far as there is room and memory. Returns a status.
 pub(crate) fn write_routes(
     alloc: Global,
@@ -237,29 +176,6 @@ pub(crate) fn write_route_sums(
     match engine.route_sums(alloc, sources, targets, values, weights, sums) {
         Ok(summed) => {
             *pairs = summed.count;
-            status_of_sums(summed.end)
-        }
-        Err(refusal) => status_of(refusal),
-    }
-}
-
-/// Writes sums along the routes of the cells of a table as far as they fit and there is memory. Returns a status.
-pub(crate) fn write_table_sums(
-    alloc: Global,
-    engine: &mut Engine,
-    sources: &[u32],
-    targets: &[u32],
-    values: &[u64],
-    cells: &mut u64,
-    weights: &mut [u64],
-    sums: &mut [u64],
-) -> u32
-    ensures answered { AreTableSumsAnswered engine.old sources.now targets.now values.now (record { pairs = cells.old; weights = weights.old; sums = sums.old }) (record { pairs = cells.new; weights = weights.new; sums = sums.new }) result }
-    ensures same { engine.new ≡ engine.old }
-{
-    match engine.table_sums(alloc, sources, targets, values, weights, sums) {
-        Ok(summed) => {
-            *cells = summed.count;
             status_of_sums(summed.end)
         }
         Err(refusal) => status_of(refusal),

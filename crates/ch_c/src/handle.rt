@@ -2,13 +2,12 @@
 ghost use Rattle.std.specs.Prelude.{◌≡◌, ◌↔◌, IfSome, IsSome, IsTrue, MatchOption, None, Some, ⊤};
 ghost use Rattle.ch_hierarchy.specs.Hierarchy.{nodes_of};
 ghost use Rattle.ch_engine.specs.Lines.{IsOfSome};
-ghost use Rattle.ch_c.specs.Calls.{AreCellsAnswered, AreFlowsAnswered, AreKeptSumsAnswered, ArePairsAnswered, ArePairSumsAnswered, ArePlacesKept, AreRoutesAnswered, AreRowsAnswered, AreSummedRowsAnswered, AreSumsAnswered, AreTableFlowsAnswered, AreTableSumsAnswered, AreValuesKept, IsRouteAnswered, IsSaved, IsSwept, IsTableAnswered, OfNetwork};
+ghost use Rattle.ch_c.specs.Calls.{AreCellsAnswered, AreFlowsAnswered, AreKeptSumsAnswered, ArePairsAnswered, ArePairSumsAnswered, ArePlacesKept, AreRoutesAnswered, AreRowsAnswered, AreSummedRowsAnswered, AreSumsAnswered, AreTableFlowsAnswered, AreValuesKept, IsSaved, IsSwept, IsTableAnswered, OfNetwork};
 ghost use Rattle.ch_c.specs.declared.status.TheConstants.{OK};
 
-pub use crate::answers::Found;
 use crate::answers::{
-    keep_values, write_distances, write_flows, write_kept_sums, write_route, write_route_sums,
-    write_routes, write_saved, write_table, write_table_flows, write_table_sums,
+    keep_values, write_distances, write_flows, write_kept_sums, write_route_sums, write_routes,
+    write_saved, write_table, write_table_flows,
 };
 use crate::erased::ErasedEngine;
 use crate::near::{keep_places, sweep, write_cells, write_rows, write_summed_rows, write_sums};
@@ -158,27 +157,6 @@ pub extern "C" fn chtab_table(
     status
 }
 
-/// Writes the route from a node to another: its weight, its number of nodes, and the nodes if there is room.
-#[unsafe(no_mangle)]
-pub extern "C" fn chtab_route(
-    alloc: Global,
-    handle: &mut Handle,
-    source: u32,
-    target: u32,
-    found: &mut Found,
-    nodes: &mut [u32],
-) -> u32
-    ensures answered { OfNetwork handle.old.engine.network result ((found.new ≡ found.old) × (nodes.new ≡ nodes.old)) (λ held. IsRouteAnswered held.hierarchy source target found.old found.new nodes.old nodes.new result) }
-    ensures same { handle.new.engine.network ≡ handle.old.engine.network }
-{
-    let Some(mut engine) = handle.take(alloc) else {
-        return CLOSED;
-    };
-    let status = write_route(alloc, &mut engine, source, target, found, nodes);
-    handle.put(engine);
-    status
-}
-
 /// Writes the routes of pairs, one after the other: the number of routes, the weight of each, the end of its nodes, the
 /// nodes, and on request the line of the arc that leads to each node.
 #[unsafe(no_mangle)]
@@ -247,39 +225,6 @@ pub extern "C" fn chtab_route_sums(
     status
 }
 
-/// Writes sums along the routes of the cells of a table: the number of cells, and for each, row after row, the weight of its
-/// route, and the sum of the values on the lines of the route's arcs.
-#[unsafe(no_mangle)]
-pub extern "C" fn chtab_table_sums(
-    alloc: Global,
-    handle: &mut Handle,
-    sources: &[u32],
-    targets: &[u32],
-    values: &[u64],
-    cells: &mut u64,
-    weights: &mut [u64],
-    sums: &mut [u64],
-) -> u32
-    ensures answered { OfNetwork handle.old.engine.network result ((cells.new ≡ cells.old) × (weights.new ≡ weights.old) × (sums.new ≡ sums.old)) (λ held. AreTableSumsAnswered held sources.now targets.now values.now (record { pairs = cells.old; weights = weights.old; sums = sums.old }) (record { pairs = cells.new; weights = weights.new; sums = sums.new }) result) }
-    ensures same { handle.new.engine.network ≡ handle.old.engine.network }
-{
-    let Some(mut engine) = handle.take(alloc) else {
-        return CLOSED;
-    };
-    let status = write_table_sums(
-        alloc,
-        &mut engine,
-        sources,
-        targets,
-        values,
-        cells,
-        weights,
-        sums,
-    );
-    handle.put(engine);
-    status
-}
-
 /// Keeps a value for each line of the graph. They replace the values before.
 #[unsafe(no_mangle)]
 pub extern "C" fn chtab_keep_values(alloc: Global, handle: &mut Handle, values: &[u64]) -> u32
@@ -293,7 +238,8 @@ pub extern "C" fn chtab_keep_values(alloc: Global, handle: &mut Handle, values: 
     status
 }
 
-/// Writes sums along the routes of the cells of a table, as [`chtab_table_sums`] does for the values that are kept.
+/// Writes sums along the routes of the cells of a table: the number of cells, and for each, row after row, the weight of its
+/// route, and the sum of the kept values on the lines of the route's arcs.
 #[unsafe(no_mangle)]
 pub extern "C" fn chtab_kept_table_sums(
     alloc: Global,

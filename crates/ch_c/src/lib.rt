@@ -1,6 +1,6 @@
 //! The calls of the library for C: an engine of `ch_engine` behind a handle of 16 bytes, which the caller keeps.
 //!
-//! It stands on ch_engine, ch_graph, ch_hierarchy, ch_query, ch_read, ch_rows, ch_text, core, std_alloc and std_heap.
+//! It stands on ch_engine, ch_graph, ch_hierarchy, ch_read, ch_rows, ch_text, core, std_alloc and std_heap.
 //! It exports the calls that `include/chtab.h` declares. [`numbers`] is for readers alone, and proves the statuses.
 //!
 //! No call requires anything: it tests handles, lengths, nodes, sizes and bytes itself, and returns a status.
@@ -21,10 +21,10 @@ mod topology;
 
 pub use faults::Fault;
 pub use handle::{
-    Found, Handle, chtab_distances, chtab_flows, chtab_flows_table, chtab_keep_values,
+    Handle, chtab_distances, chtab_flows, chtab_flows_table, chtab_keep_values,
     chtab_kept_near_sums, chtab_kept_table_sums, chtab_near_places, chtab_near_rows,
-    chtab_near_sums, chtab_near_sweep, chtab_near_table, chtab_nodes, chtab_route,
-    chtab_route_sums, chtab_routes, chtab_save, chtab_table, chtab_table_sums, chtab_version,
+    chtab_near_sums, chtab_near_sweep, chtab_near_table, chtab_nodes, chtab_route_sums,
+    chtab_routes, chtab_save, chtab_table, chtab_version,
 };
 pub use opening::{
     chtab_close, chtab_open, chtab_open_arrays, chtab_open_like, chtab_open_quick, chtab_share,

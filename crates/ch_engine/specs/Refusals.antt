@@ -102,19 +102,6 @@ IsRefusalOfTable n sources targets room Refusal.TooLarge =
 IsRefusalOfTable n sources targets room Refusal.NoPlaces = ⊥
 IsRefusalOfTable n sources targets room Refusal.NoValues = ⊥
 
--- both are nodes of a network of n nodes
-abbrev pub IsNodePair : ℕ → ℕ → ℕ → Type 0
-IsNodePair n source target = (source < n) × (target < n)
-
--- the reason for refusing a route. Nodes come before memory
-abbrev pub IsRefusalOfRoute : ℕ → ℕ → ℕ → Refusal → Type 0
-IsRefusalOfRoute n source target Refusal.NoMemory = IsNodePair n source target
-IsRefusalOfRoute n source target Refusal.NodeRange = IsNodePair n source target → ⊥
-IsRefusalOfRoute n source target Refusal.Lengths = ⊥
-IsRefusalOfRoute n source target Refusal.TooLarge = ⊥
-IsRefusalOfRoute n source target Refusal.NoPlaces = ⊥
-IsRefusalOfRoute n source target Refusal.NoValues = ⊥
-
 -- so many lines can be asked for with room for so many nodes: none, or as many
 abbrev pub IsLinesRoom : ℕ → ℕ → Type 0
 IsLinesRoom nodes lines = (lines ≡ 0) ⊎ (lines ≡ nodes)
@@ -152,22 +139,6 @@ IsRefusalOfPairSums n lines sources targets values weights sums Refusal.Lengths 
 IsRefusalOfPairSums n lines sources targets values weights sums Refusal.TooLarge = ⊥
 IsRefusalOfPairSums n lines sources targets values weights sums Refusal.NoPlaces = ⊥
 IsRefusalOfPairSums n lines sources targets values weights sums Refusal.NoValues = ⊥
-
--- arrays of these lengths fit a table of sums: a place for each cell, and a value for each line
-abbrev pub AreTableSumLengths : ℕ → ℕ → ℕ → ℕ → ℕ → ℕ → Type 0
-AreTableSumLengths sources targets weights sums values lines = (weights ≡ sources * targets) × (sums ≡ sources * targets)
-    × (values ≡ lines)
-
--- the reason for refusing a table of sums, in the same order
-abbrev pub IsRefusalOfTableSums : ℕ → ℕ → List ℕ → List ℕ → ℕ → ℕ → ℕ → Refusal → Type 0
-IsRefusalOfTableSums n lines sources targets values weights sums Refusal.NoMemory = ⊥
-IsRefusalOfTableSums n lines sources targets values weights sums Refusal.NodeRange =
-    AreTableSumLengths (length sources) (length targets) weights sums values lines × (AreNodes n sources × AreNodes n targets → ⊥)
-IsRefusalOfTableSums n lines sources targets values weights sums Refusal.Lengths =
-    AreTableSumLengths (length sources) (length targets) weights sums values lines → ⊥
-IsRefusalOfTableSums n lines sources targets values weights sums Refusal.TooLarge = ⊥
-IsRefusalOfTableSums n lines sources targets values weights sums Refusal.NoPlaces = ⊥
-IsRefusalOfTableSums n lines sources targets values weights sums Refusal.NoValues = ⊥
 
 -- arrays of these lengths fit so many pairs, and there is a flow for each line
 abbrev pub AreFlowLengths : ℕ → ℕ → ℕ → ℕ → ℕ → Type 0

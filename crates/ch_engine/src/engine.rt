@@ -12,7 +12,7 @@ ghost use Rattle.ch_engine.specs.Held.{KeepsNothing, only, without_places};
 ghost use Rattle.ch_engine.specs.Opened.{IsOpened, IsOpenedLike, IsOpenedOfArrays, IsOpenedQuickly};
 ghost use Rattle.ch_engine.specs.Cells.{ArePairCells, AreTableCells, IsCell};
 ghost use Rattle.ch_engine.specs.Routes.{IsFound};
-ghost use Rattle.ch_engine.specs.Refusals.{AreNodes, ArePairs, AreTableLists, IsLikeError, IsNodePair, IsOpenError, IsRefusalOfPairs, IsRefusalOfRoute, IsRefusalOfTable, IsArraysOpenError};
+ghost use Rattle.ch_engine.specs.Refusals.{AreNodes, ArePairs, AreTableLists, IsLikeError, IsOpenError, IsRefusalOfPairs, IsRefusalOfTable, IsArraysOpenError};
 
 use crate::fault::{OpenError, Refusal};
 use crate::kept_values::shared;
@@ -326,30 +326,7 @@ impl Engine {
         Ok(())
     }
 
-    /// Returns the route from a node to another, or `None` if there is no walk.
-    ///
-    /// # Errors
-    /// `NodeRange` if a number is no node, or `NoMemory`.
-    pub fn route(
-        &mut self,
-        alloc: Global,
-        source: u32,
-        target: u32,
-    ) -> Result<Option<Route>, Refusal>
-        ensures route { IfOk result (IsFound self.old.hierarchy source target) }
-        ensures few { IfOk result (λ answer. MatchOption answer ⊤ (λ route. length route.arcs < nodes_of self.old.hierarchy)) }
-        ensures fit { IfOk result (λ _. IsNodePair (nodes_of self.old.hierarchy) source target) }
-        ensures refused { IfErr result (IsRefusalOfRoute (nodes_of self.old.hierarchy) source target) }
-        ensures same { self.new ≡ self.old }
-    {
-        let nodes = self.nodes();
-        if source >= nodes || target >= nodes {
-            return Err(Refusal::NodeRange);
-        }
-        Ok(self.find_route(alloc, source, target)?)
-    }
-
-    /// Returns the route between two nodes.
+    /// Returns the route between two nodes, or `None` if there is no walk.
     pub(crate) fn find_route(
         &mut self,
         alloc: Global,
@@ -359,7 +336,6 @@ impl Engine {
         requires source { source < nodes_of self.old.hierarchy }
         requires target { target < nodes_of self.old.hierarchy }
         ensures route { IfOk result (IsFound self.old.hierarchy source target) }
-        ensures few { IfOk result (λ answer. MatchOption answer ⊤ (λ route. length route.arcs < nodes_of self.old.hierarchy)) }
         ensures ends { IfOk result (λ answer. MatchOption answer ⊤ (λ route. All (HasEnds (nodes_of self.old.hierarchy)) route.arcs)) }
         ensures same { self.new ≡ self.old }
     {

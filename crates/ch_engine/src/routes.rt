@@ -20,9 +20,9 @@ use std::alloc::Global;
 
 impl Engine {
     /// Writes the routes of pairs, one after the other: the weight of each as a word, the end of its nodes, and the
-    /// nodes. They are those of [`Engine::route`], from the source on. If there is no walk, the word is
-    /// [`NO_DISTANCE`], and there are no nodes. It ends before the first route for which there is no room or no
-    /// memory. Room for as many nodes as the network has is always enough for one route.
+    /// nodes, from the source on. If there is no walk, the word is [`NO_DISTANCE`], and there are no nodes. It ends before
+    /// the first route for which there is no room or no memory. Room for as many nodes as the network has is always enough
+    /// for one route.
     ///
     /// If `lines` is not empty, it is as long as `nodes`. Beside each node but the first of a route stands the line of
     /// the arc that leads to it: the place of the arc in the graph's file, counted from 0. Of several arcs between two

@@ -5,7 +5,7 @@ ghost use Rattle.ch_engine.specs.Held.{only};
 ghost use Rattle.ch_engine.specs.LegSums.{AreKeptOfLines, AreKeptSums};
 ghost use Rattle.ch_engine.specs.Lines.{IsOfSome, Lines};
 ghost use Rattle.ch_engine.specs.NearRows.{StaysFrom};
-ghost use Rattle.ch_engine.specs.Refusals.{AreKeptSumLists, AreNodes, AreTableSumLengths, IsCellRoom, IsRefusalOfKeptSums, IsRefusalOfTableSums};
+ghost use Rattle.ch_engine.specs.Refusals.{AreKeptSumLists, AreNodes, IsCellRoom, IsRefusalOfKeptSums};
 ghost use Rattle.ch_engine.specs.RouteSums.{IsPairSum};
 ghost use Rattle.ch_engine.specs.Routes.{IsFound};
 ghost use Rattle.ch_engine.specs.TableSums.{AreCells, AreKeptSumsWritten, AreRowSums, AreStops, AreTableSumsWritten, IsCell, IsCellEnd, IsEarly, IsRowEnd, IsWhole};
@@ -26,52 +26,13 @@ use std::alloc::{AllocError, Global};
 use std::sync::Arc;
 
 impl Engine {
-    /// Writes the weight of the route of each cell of a table as a word, and the sum of the values on the lines of its
-    /// arcs, row after row. Routes and lines are those of [`Engine::routes`], and there is a value for each line of the
-    /// graph. Without a walk the word is [`NO_DISTANCE`] and the sum is 0. It ends before the first cell whose sum is 2^64
-    /// or more, or before a row for which there is no memory.
+    /// Writes the weight of the route of each cell of a table as a word, and the sum of the values that [`Engine::keep_values`]
+    /// keeps on the lines of its arcs, row after row. Routes and lines are those of [`Engine::routes`]. Without a walk the word
+    /// is [`NO_DISTANCE`] and the sum is 0. It ends before the first cell whose sum is 2^64 or more, or before a row for which
+    /// there is no memory.
     ///
-    /// Each source and each target takes one search, and a cell about the time of one of [`Engine::table`]. The sums along
-    /// all legs of the hierarchy serve the next call with the same values too, which compares all values. A call of
-    /// [`Engine::kept_table_sums`] does not.
-    ///
-    /// # Errors
-    /// `Lengths` if the lengths do not fit, otherwise `NodeRange` if a number is no node. Then nothing is written.
-    pub fn table_sums(
-        &mut self,
-        alloc: Global,
-        sources: &[u32],
-        targets: &[u32],
-        values: &[u64],
-        weights: &mut [u64],
-        sums: &mut [u64],
-    ) -> Result<Summed, Refusal>
-        ensures written { IfOk result (AreTableSumsWritten self.old sources.now targets.now values.now weights.new sums.new) }
-        ensures behind { IfOk result (λ summed. StaysFrom summed.count weights.old weights.new × StaysFrom summed.count sums.old sums.new) }
-        ensures fit { OnOk result (AreTableSumLengths (length sources.now) (length targets.now) (length weights.old) (length sums.old) (length values.now) self.old.lines.count) }
-        ensures known { OnOk result (AreNodes (nodes_of self.old.hierarchy) sources.now × AreNodes (nodes_of self.old.hierarchy) targets.now) }
-        ensures refused { IfErr result (λ refusal. (weights.new ≡ weights.old) × (sums.new ≡ sums.old) × IsRefusalOfTableSums (nodes_of self.old.hierarchy) self.old.lines.count sources.now targets.now (length values.now) (length weights.old) (length sums.old) refusal) }
-        ensures same { self.new ≡ self.old }
-    {
-        let cells = sources.len().checked_mul(targets.len());
-        if cells != Some(weights.len()) || cells != Some(sums.len()) {
-            return Err(Refusal::Lengths);
-        }
-        if values.len() != self.network.count() {
-            return Err(Refusal::Lengths);
-        }
-        let count = self.nodes();
-        if !are_both_nodes(sources, targets, count) {
-            return Err(Refusal::NodeRange);
-        }
-        let Ok(kept) = self.sums_for(alloc, values) else {
-            return Ok(ended(0, SumsEnd::NoMemory));
-        };
-        Ok(self.write_table_sums(alloc, &kept, sources, targets, weights, sums))
-    }
-
-    /// Writes the same as [`Engine::table_sums`] for the values that [`Engine::keep_values`] keeps, without a look at all of
-    /// them. A table takes about twice as long as one of [`Engine::table`], on a network of any size.
+    /// Each source and each target takes one search. A table takes about twice as long as one of [`Engine::table`], on a network
+    /// of any size.
     ///
     /// # Errors
     /// `NoValues` if no values are kept, otherwise `Lengths` if the lengths do not fit, otherwise `NodeRange` if a number is no
