@@ -2,7 +2,6 @@
 ghost use Rattle.std.specs.Prelude.{◌≡◌, Err, List, Result};
 ghost use Rattle.ch_run.specs.declared.fault.RunFault.{RunFault as FaultOf};
 ghost use Rattle.ch_run.specs.declared.fault.Which.{Which as WhichOf};
-ghost use Rattle.ch_job.specs.Job.{job_map};
 ghost use Rattle.ch_job.specs.declared.job.Job.{Job as JobOf};
 ghost use Rattle.ch_line.specs.Inputs.{RunsOver, TellsOver};
 ghost use Rattle.ch_line.specs.Line.{AreOpened, EndsAtMissing, File, HaveBytes, IsUnopened, MayAllBeThere, StopsOpening};
@@ -25,7 +24,7 @@ pub fn openings_tell<F: Files>()
 /// of a file is reported exactly if there was one. A read or a write that failed is not tried again, and a failed write
 /// is reported.
 pub fn run_tells<I: Input, J: Input, O: Output>()
-    ensures { (old new : JobOf I) → (requests requests' : J) → (output output' : O) → (result : Result Unit FaultOf) → job_map I.origin new ≡ job_map I.origin old →
+    ensures { (old new : JobOf I) → (requests requests' : J) → (output output' : O) → (result : Result Unit FaultOf) →
         RunsOver I.read_gives old new J.read_gives requests requests' O.write_gives output output' result →
-        TellsOver I.read_gives I.origin I.failed J.read_gives J.failed O.write_gives O.failed O.idle old new requests requests' output output' result }
+        TellsOver I.read_gives old new J.read_gives requests requests' O.write_gives output output' result }
 {}

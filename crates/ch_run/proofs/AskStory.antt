@@ -9,11 +9,10 @@ use Rattle.ch_run.specs.Ask.{IsOfAsk, IsOfServing, ReadsSome, Rules, Serves, Ser
 use Rattle.ch_run.specs.Run.{IsOf, Reading, SourceReading}
 use Rattle.ch_run.specs.Source.{IsOfLoading}
 use Rattle.ch_run.specs.Stories.{RunsAsk}
-use Rattle.ch_run.specs.Told.{Calls}
+use Rattle.ch_run.specs.Told.{AskTells, Calls, GoesPastBefore, Met, ReportsReads, ReportsWrites, Written, step_of}
 use Rattle.ch_run.proofs.Loading.{graph_of}
 use Rattle.ch_run.proofs.Owed.{err_weaker, of_no_write, of_one}
-use Rattle.ch_run.proofs.Tells.{GoesPastBefore, Loaded, Met, ReportsReads, ReportsWrites, Written, loads_told, step_of, untouched}
-use Rattle.ch_run.proofs.Tells.{unwritten}
+use Rattle.ch_run.proofs.Tells.{loads_told, untouched, unwritten}
 
 -- reads that gave these bytes did not fail
 some_read : (requests : Reading) (P : List ℕ → List ℕ → Type 0) → ReadsSome requests P →
@@ -58,14 +57,13 @@ serving_past r own which less = IfErr-weaker r _ _ (λ e of stops. elim of [
 pub ask_told : {T O : Type 0} (options : Options) {graph : Reading} {saved : SourceReading} {requests : Reading}
     {same_source same : Type 0} {takes : Calls O} {old new : O} {r : Result T RunFault} →
     RunsAsk options graph saved requests same_source same takes old new r →
-    Loaded r (IsOfAsk saved) graph saved same_source (ReportsReads Which.Requests requests same r × ReportsWrites takes old new r
-    × ((IsErrAnd r (IsOfLoading saved) × same × (new ≡ old)) ⊎ ServesBy options graph saved requests takes old new r))
+    AskTells options graph saved requests same_source same takes old new r
 ask_told options {graph} {saved} {requests} {same = same} {takes} {old} {new} {r} went =
     let quiet : (first : Which) → step_of first < 2 → ((e : RunFault) → IsOf first e → IsOfLoading saved e) → IsErrAnd r (IsOf first) →
     same × (new ≡ old) → ReportsReads Which.Requests requests same r × ReportsWrites takes old new r
     × ((IsErrAnd r (IsOfLoading saved) × same × (new ≡ old)) ⊎ ServesBy options graph saved requests takes old new r) =
     λ first less of is at.
-    let met : Met r Which.Requests requests same ⊤ (λ input e. ⊤) = untouched r first is less at.0 in
+    let met : Met r Which.Requests requests same ⊤ (λ e. ⊤) = untouched r first is less at.0 in
     let wrote : Written r takes old new ⊤ (λ text. ⊤) = unwritten r first is at.1 in
     (met.calls, wrote.calls, inl (err_weaker r _ _ is of, at.0, at.1)) in
     loads_told r (IsOfAsk saved) graph saved (λ e is. inl is) went quiet (λ g h loaded serving. elim serving [

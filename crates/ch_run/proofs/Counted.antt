@@ -1,21 +1,14 @@
 -- What is told of inputs and of the output, by the counts of their failed calls.
-use Rattle.std.proofs.Common.{◌≡◌, ℕ, ◌+◌, List, [], inl, inr, refl, ap, arith}
+use Rattle.std.proofs.Common.{◌≡◌, ℕ, ◌+◌, List, [], inl, inr, ap, arith}
 use Rattle.std.specs.Prelude.{◌⊎◌, Result}
-use Rattle.std.proofs.Math.Logic.{⊎_map}
 use Rattle.ch_text.specs.Device.{failures_in, idle_writes}
 use Rattle.ch_text.specs.Moves.{Took}
 use Rattle.ch_text.specs.declared.device.DeviceFault.{DeviceFault}
 use Rattle.ch_text.proofs.Moves.{all-counts, fault-counts, gave-counts, took-counts, until-counts}
-use Rattle.ch_job.specs.Job.{source_map, sources_map}
-use Rattle.ch_job.specs.declared.source.Source.{Source}
-use Rattle.ch_job.specs.declared.sources.Sources.{Sources}
 use Rattle.ch_run.specs.declared.fault.RunFault.{RunFault}
 use Rattle.ch_run.specs.declared.fault.Which.{Which}
-use Rattle.ch_run.specs.NearRun.{ReadsSources, sources_reading}
-use Rattle.ch_run.specs.Run.{Reading, ReadsAfter, ReadsOnce, WritesAfter, WritesOnce, reading}
-use Rattle.ch_run.specs.Source.{ReadsSource, source_reading}
-use Rattle.ch_run.specs.Told.{Calls}
-use Rattle.ch_run.proofs.Tells.{Met, MetIf, MetSource, ReportsReads, ReportsWrites, Written, read_before, step_of}
+use Rattle.ch_run.specs.Run.{ReadsOnce, WritesOnce, reading}
+use Rattle.ch_run.specs.Told.{Calls, ReportsReads, ReportsWrites}
 
 -- the law of an input that ties its calls to its count of failures
 abbrev pub CountsReads : {I : Type 0} → Calls I → (I → ℕ) → Type 0
@@ -47,11 +40,6 @@ module _ {T O : Type 0} {takes : Calls O} {failed idle : O → ℕ} (counts : Co
       same (inl at) = (ap failed at, ap idle at)
       same (inr (text, took)) = took-counts takes failed idle counts old text [] new took
 
-  -- the promise on the output
-  pub writes_after : {accepted : Type 0} {P : List ℕ → Type 0} → Written r takes old new accepted P →
-      WritesAfter accepted r failed idle old new
-  writes_after told = record { writes = writes_once told.calls; unwritten = told.unwritten }
-
 module _ {T I : Type 0} {gives : Calls I} {failed : I → ℕ} (counts : CountsReads gives failed) {old new : I} {same : Type 0}
     (still : same → new ≡ old) {r : Result T RunFault} {which : Which} where
   -- a failed read is reported exactly if there was one
@@ -67,46 +55,3 @@ module _ {T I : Type 0} {gives : Calls I} {failed : I → ℕ} (counts : CountsR
       kept (inl at) = ap failed (still at)
       kept (inr (bytes, inl some)) = gave-counts gives failed counts old bytes new some
       kept (inr (bytes, inr all)) = all-counts gives failed counts old bytes new all
-
-  -- the promise on an input
-  pub reads_after : {accepted : Type 0} {Why : Reading → RunFault → Type 0} → Met r which (reading gives old new) same accepted Why →
-      ReadsAfter (read_before (step_of which)) accepted which r gives failed old new (λ input fault. Why input (RunFault.Read which fault))
-  reads_after met = record {
-    reads = record { refused = λ fault is. met.why _ (refl, λ is. cc) is; once = reads_once met.calls };
-    unread = ⊎_map still (λ accepted. accepted) met.unread;
-  }
-
-module _ {T I : Type 0} (r : Result T RunFault) {gives : Calls I} {failed : I → ℕ} (counts : CountsReads gives failed)
-    (origin : I → ℕ) where
-  -- the promise on the source of the hierarchy
-  pub source_after : (graph : Reading) (old new : Source I) → source_map origin new ≡ source_map origin old →
-      MetSource r graph (source_reading gives old new) (new ≡ old) → ReadsSource graph r gives failed old new
-  source_after graph Source.Built Source.Built same met = refl
-  source_after graph (Source.Saved old) (Source.Saved new) same met = record {
-    lines = reads_after counts (λ is. cc) met;
-    check = λ fault is. let at = met.why (RunFault.Check fault) (refl, λ is. cc) is in
-        (at.0, at.2.2.0, at.1, (at.2.0, at.2.1, at.2.2.1), at.2.2.2);
-  }
-  source_after graph (Source.Like old fresh hops) (Source.Like new fresh' hops') same met = record {
-    lines = reads_after counts (λ is. cc) met;
-    order = λ is. let at = met.why RunFault.Order (refl, λ is. cc) is in
-        (at.0, at.2.2.0, at.1, (at.2.0, at.2.1, at.2.2.1), at.2.2.2);
-    crowded = λ node is. let at = met.why (RunFault.Crowded node) (refl, λ is. cc) is in
-        (at.0, at.2.2.0, at.1, (at.2.0, at.2.1, at.2.2.1), at.2.2.2);
-  }
-  source_after graph (Source.Customized old hops) (Source.Customized new hops') same met = record {
-    lines = reads_after counts (λ is. cc) met;
-    order = λ is. let at = met.why RunFault.Order (refl, λ is. cc) is in
-        (at.0, at.2.2.0, at.1, (at.2.0, at.2.1, at.2.2.1), at.2.2.2);
-    crowded = λ node is. let at = met.why (RunFault.Crowded node) (refl, λ is. cc) is in at.2.2;
-  }
-  source_after graph (Source.Dissected hops) (Source.Dissected hops') same met = cc
-  source_after graph _ _ same met = absurd (let none : ⊥ = cc in none)
-
-  -- the promise on the list of sources
-  pub listed_after : (accepted : Type 0) (Why : Reading → RunFault → Type 0) (old new : Sources I) →
-      sources_map origin new ≡ sources_map origin old → MetIf r (sources_reading gives old new) (new ≡ old) accepted Why →
-      ReadsSources (read_before 2) accepted r gives failed old new (λ input fault. Why input (RunFault.Read Which.Sources fault))
-  listed_after accepted Why Sources.All Sources.All same met = refl
-  listed_after accepted Why (Sources.Listed old) (Sources.Listed new) same met = reads_after counts (λ is. cc) met
-  listed_after accepted Why _ _ same met = absurd (let none : ⊥ = cc in none)

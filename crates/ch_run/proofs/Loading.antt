@@ -1,5 +1,5 @@
 -- The graph that was loaded, and the hierarchy that was saved or built like an order, if there is one.
-use Rattle.std.proofs.Common.{◌≡◌, ℕ, List, Some, refl, ◌∙◌, inl}
+use Rattle.std.proofs.Common.{ℕ, List, Some, refl, ◌∙◌, inl}
 use Rattle.std.specs.Prelude.{Result, Ok, Err, IfOk}
 use Rattle.ch_hierarchy.specs.Kept.{IsKept}
 use Rattle.ch_hierarchy.specs.Saved.{IsOrderOf}
@@ -9,7 +9,6 @@ use Rattle.ch_contract.specs.Like.{IsHierarchyLike}
 use Rattle.ch_contract.proofs.theory.GivenOrders.{from_kept}
 use Rattle.ch_contract.proofs.theory.OrdersExist.{like_exists}
 use Rattle.ch_order.specs.declared.construction.like.LikeError.{LikeError}
-use Rattle.ch_order.specs.declared.construction.like.OrderError.{OrderError}
 use Rattle.ch_graph.specs.Graph.{Network, IsWithinLimits}
 use Rattle.ch_hierarchy.specs.Hierarchy.{LevelsAndLegs}
 use Rattle.ch_run.specs.declared.fault.RunFault.{RunFault}

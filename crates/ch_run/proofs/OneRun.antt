@@ -1,6 +1,5 @@
 -- Runs over the same bytes write the same text.
 use Rattle.std.proofs.Common.{◌≡◌, ℕ, Bool, true, false, if◌then◌else◌, List, take, Option, Some, None, refl, sym, ap, ◌∙◌, subst}
-use Rattle.std.specs.Prelude.{⊤}
 use Rattle.ch_graph.specs.Graph.{Network}
 use Rattle.ch_graph.specs.Saved.{OrderAndLegs}
 use Rattle.ch_read.specs.Names.{NamesGraph, NamesNodes, NamesQueries, NamesSaved}
@@ -15,18 +14,16 @@ use Rattle.ch_contract.specs.declared.measure.OrderBy.TheVariants.{Depth}
 use Rattle.ch_contract.proofs.theory.BuiltKept.{hierarchies_kept}
 use Rattle.ch_contract.proofs.theory.OneInTurn.{one_hierarchy_from}
 use Rattle.ch_contract.proofs.theory.OneOrder.{one_hierarchy}
-use Rattle.ch_job.specs.declared.options.Options.{Options}
 use Rattle.ch_text.specs.SaveText.{IsHierarchyText}
 use Rattle.ch_text.proofs.OneText.{one_hierarchy_text, one_table_text}
-use Rattle.ch_run.specs.DistRun.{IsAnsweredBy}
-use Rattle.ch_run.specs.NearRun.{AreSources, IsNearBy}
+use Rattle.ch_run.specs.NearRun.{AreSources}
 use Rattle.ch_run.specs.Run.{CustomizedFile, FoundOrder, GivesOnly, NoFile, NoInput, OneInput, OrderFile, Reading, ReadingIf, ReadsAll}
 use Rattle.ch_run.specs.Run.{ReadsGraph, SavedFile, SourceReading}
-use Rattle.ch_run.specs.SaveRun.{IsSavedBy}
 use Rattle.ch_run.specs.Source.{AreLoaded, IsOfRoutes, IsServing, ReadsSaved, WithLoaded}
-use Rattle.ch_run.specs.TableRun.{IsTabledBy}
 use Rattle.ch_run.specs.declared.needed.Needed.TheVariants.{InOrder, Quick}
 use Rattle.ch_run.specs.Text.{IsTextBy, writes_routes}
+use Rattle.ch_run.specs.TextLaws.{AnswersHaveOneText, HasKnownIf, HasKnownSource, HierarchiesHaveOneText, IsNamed, NearRowsHaveOneText}
+use Rattle.ch_run.specs.TextLaws.{SavedNearRowsAreThoseOfTheGraph, TablesHaveOneText}
 use Rattle.ch_run.proofs.OneText.{one_rows_text, one_text_by}
 
 -- the bytes of an input name only one value
@@ -36,31 +33,13 @@ reads_one : {V : Type 0} (input : Reading) (bytes : List ℕ) → GivesOnly inpu
 reads_one input bytes told names one x y a b =
     one x y (subst (λ xs. names xs x) (told a.0 a.1) a.2) (subst (λ xs. names xs y) (told b.0 b.1) b.2)
 
--- the reads of the input for the hierarchy, or of a list that only some runs have, can give only certain bytes. No rule names the hierarchy
--- if it is customized, because it may be built quickly instead
-abbrev HasKnown : SourceReading → Type 0
-HasKnown NoFile = ⊤
-HasKnown (SavedFile saved) = (bytes : List ℕ) × GivesOnly saved bytes
-HasKnown (OrderFile order fresh hops) = (bytes : List ℕ) × GivesOnly order bytes
-HasKnown (CustomizedFile order hops) = ⊥
-HasKnown (FoundOrder hops) = ⊥
-
-abbrev HasKnownIf : ReadingIf → Type 0
-HasKnownIf NoInput = ⊤
-HasKnownIf (OneInput input) = (bytes : List ℕ) × GivesOnly input bytes
-
 -- there is one hierarchy that serves in a named order
 one_serving : (by : OrderBy) (hops : ℕ) (g : Network) (h : Option LevelsAndLegs) (H K : LevelsAndLegs) →
     IsServing (InOrder by) hops g h H → IsServing (InOrder by) hops g h K → H ≡ K
 one_serving by hops g None H K a b = one_hierarchy by g hops H K a b
 one_serving by hops g (Some L) H K a b = a ∙ sym b
 
--- the hierarchy that is saved is named if it comes from a file, or if it is not built quickly
-abbrev IsNamed : (quick : Bool) → SourceReading → Type 0
-IsNamed quick NoFile = quick ≡ false
-IsNamed quick _ = ⊤
-
--- so there is one that is saved
+-- there is one that is saved, if a rule names it
 one_to_save : (graph : Reading) (source : SourceReading) (quick : Bool) → IsNamed quick source → (by : OrderBy) (hops : ℕ) (g : Network)
     (h : Option LevelsAndLegs) → AreLoaded graph source g h → (H K : LevelsAndLegs) →
     IsServing (if quick then Quick else InOrder by) hops g h H → IsServing (if quick then Quick else InOrder by) hops g h K → H ≡ K
@@ -102,7 +81,7 @@ module _ (graph : Reading) (graph_bytes : List ℕ) (told : GivesOnly graph grap
       (same, reads_one input bytes known (λ xs s. NamesSaved xs g.nodes s) (saved_answer bytes g.nodes).one_value s t a (rw same b))
 
   -- one graph was loaded, and one hierarchy
-  one_loaded : (source : SourceReading) → HasKnown source → (g k : Network) (h l : Option LevelsAndLegs) →
+  one_loaded : (source : SourceReading) → HasKnownSource source → (g k : Network) (h l : Option LevelsAndLegs) →
       AreLoaded graph source g h → AreLoaded graph source k l → (g ≡ k) × (h ≡ l)
   one_loaded NoFile known g k h l a b = (one_graph g k a.1 b.1, a.2 ∙ sym b.2)
   one_loaded (SavedFile saved) known g k (Some H) (Some K) (s, a) (t, b) =
@@ -118,52 +97,50 @@ module _ (graph : Reading) (graph_bytes : List ℕ) (told : GivesOnly graph grap
   one_loaded _ known g k None l a b = absurd a
   one_loaded _ known g k h None a b = absurd b
 
-  both : (source : SourceReading) → HasKnown source → {R : Type 0} (P Q : Network → Option LevelsAndLegs → Type 0) →
+  both : (source : SourceReading) → HasKnownSource source → {R : Type 0} (P Q : Network → Option LevelsAndLegs → Type 0) →
       WithLoaded graph source P → WithLoaded graph source Q →
       ((g : Network) (h : Option LevelsAndLegs) → AreLoaded graph source g h → P g h → Q g h → R) → R
   both source known P Q (g, h, a, p) (k, l, b, q) so =
       let same = one_loaded source known g k h l a b in
       so g h a p (subst (λ (n : Network). Q n h) (sym same.0) (subst (Q k) (sym same.1) q))
 
-  -- so runs have one text of answers
-  pub answers_one : (source : SourceReading) (queries : Reading) (options : Options) → HasKnown source →
-      (query_bytes : List ℕ) → GivesOnly queries query_bytes → (text other : List ℕ) → IsAnsweredBy options graph source queries text →
-      IsAnsweredBy options graph source queries other → text ≡ other
-  answers_one source queries options known query_bytes told_queries text other t u = both source known _ _ t u (λ g h loaded p q.
-      let pairs : q.0 ≡ p.0 = reads_one queries query_bytes told_queries (λ xs ps. NamesQueries xs g.nodes ps)
-      (queries_answer query_bytes g.nodes).one_value q.0 p.0 q.1 p.1 in
-      one_text_by (writes_routes options) g (IsOfRoutes options g h) (one_serving options.order options.hops.number g h)
-      (serving_kept graph source options.order options.hops.number options.hops.in_range g h loaded) p.0 text other p.2
-      (subst (λ ps. IsTextBy (writes_routes options) g (IsOfRoutes options g h) ps other) pairs q.2))
+-- so runs have one text of answers
+pub answers_one : (graph : Reading) (source : SourceReading) (queries : Reading) → AnswersHaveOneText graph source queries
+answers_one graph source queries options told known told_queries text other t u =
+    both graph told.0 told.1 source known _ _ t u (λ g h loaded p q.
+    let pairs : q.0 ≡ p.0 = reads_one queries told_queries.0 told_queries.1 (λ xs ps. NamesQueries xs g.nodes ps)
+    (queries_answer told_queries.0 g.nodes).one_value q.0 p.0 q.1 p.1 in
+    one_text_by (writes_routes options) g (IsOfRoutes options g h) (one_serving options.order options.hops.number g h)
+    (serving_kept graph source options.order options.hops.number options.hops.in_range g h loaded) p.0 text other p.2
+    (subst (λ ps. IsTextBy (writes_routes options) g (IsOfRoutes options g h) ps other) pairs q.2))
 
-  -- one table
-  pub tables_one : (source : SourceReading) (sources targets : Reading) (options : Options) → HasKnown source →
-      HasKnownIf (OneInput sources) → HasKnownIf (OneInput targets) → (text other : List ℕ) →
-      IsTabledBy options graph source sources targets text → IsTabledBy options graph source sources targets other → text ≡ other
-  tables_one source sources targets options known known_sources known_targets text other t u = both source known _ _ t u (λ g h loaded p q.
-      let from : q.0 ≡ p.0 = one_sources (OneInput sources) known_sources g.nodes q.0 p.0 q.2.0 p.2.0 in
-      let to : q.1 ≡ p.1 = one_sources (OneInput targets) known_targets g.nodes q.1 p.1 q.2.1 p.2.1 in
-      one_table_text g options.within p.0 p.1 text other p.3 (rw (from, to) at q.3))
+-- one table
+pub tables_one : (graph : Reading) (source : SourceReading) (sources targets : Reading) → TablesHaveOneText graph source sources targets
+tables_one graph source sources targets options told known told_sources told_targets text other t u =
+    both graph told.0 told.1 source known _ _ t u (λ g h loaded p q.
+    let from : q.0 ≡ p.0 = one_sources (OneInput sources) told_sources g.nodes q.0 p.0 q.2.0 p.2.0 in
+    let to : q.1 ≡ p.1 = one_sources (OneInput targets) told_targets g.nodes q.1 p.1 q.2.1 p.2.1 in
+    one_table_text g options.within p.0 p.1 text other p.3 (rw (from, to) at q.3))
 
-  -- one text of near rows
-  pub nears_one : (source : SourceReading) (sources : ReadingIf) (targets : Reading) (options : Options) → HasKnown source →
-      HasKnownIf sources → HasKnownIf (OneInput targets) → (text other : List ℕ) →
-      IsNearBy options graph source sources targets text → IsNearBy options graph source sources targets other → text ≡ other
-  nears_one source sources targets options known known_sources known_targets text other t u = both source known _ _ t u (λ g h loaded p q.
-      let from : q.0 ≡ p.0 = one_sources sources known_sources g.nodes q.0 p.0 q.2.0 p.2.0 in
-      let to : q.1 ≡ p.1 = one_sources (OneInput targets) known_targets g.nodes q.1 p.1 q.2.1 p.2.1 in
-      one_rows_text options g p.0 p.1 text other p.3 (rw (from, to) at q.3))
+-- one text of near rows
+pub nears_one : (graph : Reading) (source : SourceReading) (sources : ReadingIf) (targets : Reading) →
+    NearRowsHaveOneText graph source sources targets
+nears_one graph source sources targets options told known told_sources told_targets text other t u =
+    both graph told.0 told.1 source known _ _ t u (λ g h loaded p q.
+    let from : q.0 ≡ p.0 = one_sources sources told_sources g.nodes q.0 p.0 q.2.0 p.2.0 in
+    let to : q.1 ≡ p.1 = one_sources (OneInput targets) told_targets g.nodes q.1 p.1 q.2.1 p.2.1 in
+    one_rows_text options g p.0 p.1 text other p.3 (rw (from, to) at q.3))
 
-  -- and one text of the hierarchy
-  pub saves_one : (source : SourceReading) (options : Options) → IsNamed options.quick source → HasKnown source → (text other : List ℕ) →
-      IsSavedBy options graph source text → IsSavedBy options graph source other → text ≡ other
-  saves_one source options named known text other t u = both source known _ _ t u (λ g h loaded p q.
-      let same : q.0 ≡ p.0 = one_to_save graph source options.quick named options.order options.hops.number g h loaded q.0 p.0 q.1 p.1 in
-      one_hierarchy_text p.0 text other p.2 (subst (λ (H : LevelsAndLegs). IsHierarchyText H other) same q.2))
+-- and one text of the hierarchy
+pub saves_one : (graph : Reading) (source : SourceReading) → HierarchiesHaveOneText graph source
+saves_one graph source options named told known text other t u = both graph told.0 told.1 source known _ _ t u (λ g h loaded p q.
+    let same : q.0 ≡ p.0 =
+    one_to_save graph source options.quick named options.order options.hops.number g h loaded q.0 p.0 q.1 p.1 in
+    one_hierarchy_text p.0 text other p.2 (subst (λ (H : LevelsAndLegs). IsHierarchyText H other) same q.2))
 
 -- near rows by a saved hierarchy are those of the graph
-pub near_of_graph : (graph saved : Reading) (sources : ReadingIf) (targets : Reading) (options : Options) (text : List ℕ) →
-    IsNearBy options graph (SavedFile saved) sources targets text → IsNearBy options graph NoFile sources targets text
+pub near_of_graph : (graph saved : Reading) (sources : ReadingIf) (targets : Reading) →
+    SavedNearRowsAreThoseOfTheGraph graph saved sources targets
 near_of_graph graph saved sources targets options text (g, Some H, loaded, near) =
     (g, None, (loaded.1.limits, loaded.1.reads_graph, refl), near)
 near_of_graph graph saved sources targets options text (g, None, loaded, near) = absurd loaded

@@ -1,5 +1,5 @@
 -- Hierarchies that are customized in an order that a run reads or finds.
-use Rattle.std.specs.Prelude.{◌≡◌, ◌⊎◌, ◌*◌, ℕ, [], List}
+use Rattle.std.specs.Prelude.{◌⊎◌, ◌*◌, ℕ, [], List}
 use Rattle.ch_graph.specs.Graph.{Network}
 use Rattle.ch_graph.specs.Saved.{OrderAndLegs}
 use Rattle.ch_hierarchy.specs.Hierarchy.{LevelsAndLegs}

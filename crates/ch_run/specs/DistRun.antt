@@ -1,10 +1,9 @@
 -- The promises of a run that answers queries.
 use Rattle.std.specs.Prelude.{◌⊎◌, ℕ, List}
-use Rattle.ch_read.specs.declared.fault.ReadFault.{ReadFault}
 use Rattle.ch_run.specs.declared.fault.Which.{Which}
 use Rattle.ch_run.specs.declared.fault.RunFault.{RunFault}
 use Rattle.ch_job.specs.declared.options.Options.{Options}
-use Rattle.ch_run.specs.Run.{Reading, ReadsQueries, IsQueriesRefused, IsOf, IsWrite, SourceReading}
+use Rattle.ch_run.specs.Run.{Reading, ReadsQueries, IsOf, IsWrite, SourceReading}
 use Rattle.ch_run.specs.Source.{IsOfLoading, IsOfRoutes, WithLoaded}
 use Rattle.ch_run.specs.Text.{IsTextBy, writes_routes}
 
@@ -17,10 +16,6 @@ IsAnsweredBy options graph source queries text = WithLoaded graph source (λ g h
 -- the graph was accepted, and then the file for the hierarchy, if one is read, and then queries on the graph
 abbrev pub AcceptsQueries : Reading → SourceReading → Reading → Type 0
 AcceptsQueries graph source queries = WithLoaded graph source (λ g _. (pairs : List (ℕ × ℕ)) × ReadsQueries queries g.nodes pairs)
-
--- the graph and the file for the hierarchy, if one is read, were accepted, but the queries have this fault
-abbrev pub HasQueriesRefused : Reading → SourceReading → Reading → ReadFault → Type 0
-HasQueriesRefused graph source queries fault = WithLoaded graph source (λ g _. IsQueriesRefused queries g.nodes fault)
 
 -- the faults that the run can end in: an input is refused or can't be read, there is no memory, or a write failed
 abbrev pub IsOfDist : SourceReading → RunFault → Type 0

@@ -18,7 +18,6 @@ pub mod TableText
 pub mod NearText
 pub mod Ask
 pub mod Serving
-pub mod NearTextLaws
 pub mod NearRun
 pub mod NearRows
 pub mod DistRun

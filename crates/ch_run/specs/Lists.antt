@@ -2,10 +2,9 @@
 use Rattle.std.specs.Prelude.{◌≡◌, ℕ, ◌*◌, ◌<◌, ◌≤◌, ◌⊎◌, List, length, All}
 use Rattle.ch_graph.specs.declared.limits.TheConstants.{MOST_LISTED}
 use Rattle.ch_work.specs.declared.limits.TheConstants.{MOST_CELLS}
-use Rattle.ch_read.specs.declared.fault.ReadFault.{ReadFault}
 use Rattle.ch_run.specs.declared.fault.Which.{Which}
 use Rattle.ch_run.specs.declared.fault.RunFault.{RunFault}
-use Rattle.ch_run.specs.Run.{Reading, ReadsNodes, IsListRefused, IsOf}
+use Rattle.ch_run.specs.Run.{Reading, ReadsNodes, IsOf}
 
 -- these lists make more cells than a table may have
 abbrev pub HasTooManyCells : List ℕ → List ℕ → Type 0
@@ -25,10 +24,6 @@ AcceptsList list nodes = (listed : List ℕ) × ReadsNodes list nodes listed
 -- the inputs were read to their end and name these lists, which don't make too many cells
 abbrev pub ReadsLists : Reading → Reading → ℕ → List ℕ → List ℕ → Type 0
 ReadsLists sources targets nodes from to = ReadsNodes sources nodes from × ReadsNodes targets nodes to × (HasTooManyCells from to → ⊥)
-
--- the sources were accepted, and the targets have this fault
-abbrev pub HaveTargetsRefused : Reading → Reading → ℕ → ReadFault → Type 0
-HaveTargetsRefused sources targets nodes fault = AcceptsList sources nodes × IsListRefused targets nodes fault
 
 -- the lists were accepted, but they make too many cells
 abbrev pub HaveCellsRefused : Reading → Reading → ℕ → Type 0

@@ -2,14 +2,13 @@
 use Rattle.std.specs.Prelude.{◌≡◌, ◌⊎◌, ℕ, ◌<◌, ◌≤◌, List, length, All, Option, Some, None, Result, Vec, ⊤}
 use Rattle.std.specs.declared.alloc.Global.{Global}
 use Rattle.ch_graph.specs.declared.limits.TheConstants.{MOST_LISTED}
-use Rattle.ch_read.specs.declared.fault.ReadFault.{ReadFault}
 use Rattle.ch_text.specs.declared.device.DeviceFault.{DeviceFault}
 use Rattle.ch_run.specs.declared.fault.Which.{Which}
 use Rattle.ch_run.specs.declared.fault.RunFault.{RunFault}
 use Rattle.ch_job.specs.declared.options.Options.{Options}
 use Rattle.ch_job.specs.declared.sources.Sources.{Sources}
 use Rattle.ch_job.specs.declared.sources.Sources.TheVariants.{All as Each, Listed}
-use Rattle.ch_run.specs.Run.{Reading, ReadsAfter, ReadsNodes, IsListRefused, IsOf, IsWrite, reading_if, ReadingIf, NoInput}
+use Rattle.ch_run.specs.Run.{Reading, ReadsNodes, IsOf, IsWrite, reading_if, ReadingIf, NoInput}
 use Rattle.ch_run.specs.Run.{OneInput, SourceReading}
 use Rattle.ch_run.specs.Source.{IsOfLoading, WithLoaded}
 use Rattle.ch_run.specs.Text.{IsNearTextFor}
@@ -58,10 +57,6 @@ AcceptsAnySources sources nodes = (from : List ℕ) × AreSources sources nodes 
 abbrev pub ReadsNodeLists : ReadingIf → Reading → ℕ → List ℕ → List ℕ → Type 0
 ReadsNodeLists sources targets nodes from to = AreSources sources nodes from × ReadsNodes targets nodes to
 
--- the list of sources was accepted, if one is read, but the targets have this fault
-abbrev pub HaveNearTargetsRefused : ReadingIf → Reading → ℕ → ReadFault → Type 0
-HaveNearTargetsRefused sources targets nodes fault = AcceptsAnySources sources nodes × IsListRefused targets nodes fault
-
 -- the inputs name a graph and the two lists, and the text has their near rows with the options. A hierarchy that is
 -- loaded is right for the graph
 abbrev pub IsNearBy : Options → Reading → SourceReading → ReadingIf → Reading → List ℕ → Type 0
@@ -77,19 +72,6 @@ AcceptsNearSources graph source sources = WithLoaded graph source (λ g _. Accep
 abbrev pub AcceptsNodeLists : Reading → SourceReading → ReadingIf → Reading → Type 0
 AcceptsNodeLists graph source sources targets =
     WithLoaded graph source (λ g _. (from to : List ℕ) × ReadsNodeLists sources targets g.nodes from to)
-
--- all earlier inputs were accepted, but the targets have this fault
-abbrev pub HasNearTargetsRefused : Reading → SourceReading → ReadingIf → Reading → ReadFault → Type 0
-HasNearTargetsRefused graph source sources targets fault =
-    WithLoaded graph source (λ g _. HaveNearTargetsRefused sources targets g.nodes fault)
-
--- the promise of a run on the input of its sources. If the sources are all nodes, it reads none
-abbrev pub ReadsSources : {T J : Type 0} → (earlier : List Which) → (accepted : Type 0) → Result T RunFault →
-    (gives : J → List ℕ → Result ℕ DeviceFault → J → Type 0) → (J → ℕ) → Sources J → Sources J → (Reading → ReadFault → Type 0) → Type 0
-ReadsSources earlier accepted result gives failed Each new IsRefused = new ≡ Each
-ReadsSources earlier accepted result gives failed (Listed old) Each IsRefused = ⊥
-ReadsSources earlier accepted result gives failed (Listed old) (Listed new) IsRefused =
-    ReadsAfter earlier accepted Which.Sources result gives failed old new IsRefused
 
 -- the faults that reading the list of sources can end in, if one is read
 abbrev pub IsOfSources : ReadingIf → RunFault → Type 0

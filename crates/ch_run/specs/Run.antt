@@ -1,9 +1,6 @@
 -- The promises of every run on its inputs and its output.
-use Rattle.std.specs.Prelude.{◌≡◌, ◌≢◌, ◌⊎◌, ◌↔◌, ℕ, ◌<◌, [], ◌∷◌, List, Option, Some, None, Result, Ok, Err, IfErr, IsErrAnd, ⊤}
+use Rattle.std.specs.Prelude.{◌≡◌, ◌≢◌, ◌⊎◌, ◌↔◌, ℕ, ◌<◌, List, Option, Some, None, Result, Ok, Err, IfErr, IsErrAnd, ⊤}
 use Rattle.ch_graph.specs.Graph.{Network}
-use Rattle.ch_read.specs.declared.fault.ReadFault.{ReadFault}
-use Rattle.ch_read.specs.declared.form.Form.TheVariants as Form
-use Rattle.ch_read.specs.Checks.{IsFault}
 use Rattle.ch_read.specs.Names.{NamesGraph, NamesQueries, NamesNodes}
 use Rattle.ch_run.specs.declared.fault.Which.{Which}
 use Rattle.ch_run.specs.declared.fault.RunFault.{RunFault}
@@ -78,18 +75,6 @@ ReadsNodes list nodes listed = ReadsAll list (λ bytes. NamesNodes bytes nodes l
 abbrev pub AcceptsGraph : Reading → Type 0
 AcceptsGraph graph = (g : Network) × ReadsGraph graph g
 
--- the input was read to its end and has this fault as a graph
-abbrev pub IsGraphRefused : Reading → ReadFault → Type 0
-IsGraphRefused graph fault = ReadsAll graph (λ bytes. IsFault Form.Graph bytes fault.line fault.kind)
-
--- the input was read to its end and has this fault as queries on a graph with this many nodes
-abbrev pub IsQueriesRefused : Reading → ℕ → ReadFault → Type 0
-IsQueriesRefused queries nodes fault = ReadsAll queries (λ bytes. IsFault (Form.Queries nodes) bytes fault.line fault.kind)
-
--- the input was read to its end and has this fault as a list of nodes of a graph with this many nodes
-abbrev pub IsListRefused : Reading → ℕ → ReadFault → Type 0
-IsListRefused list nodes fault = ReadsAll list (λ bytes. IsFault (Form.Nodes nodes) bytes fault.line fault.kind)
-
 -- an input was not read to its end, for this fault: a read failed, or there was no memory for more bytes
 abbrev pub IsUnread : Which → Reading → RunFault → Type 0
 IsUnread which input (RunFault.Device other) = (which ≡ other) × ((bytes : List ℕ) × input.failed bytes)
@@ -140,38 +125,15 @@ StopsAt which fault = IsOf which fault × (fault ≢ RunFault.Memory)
 abbrev pub GoesPast : {T : Type 0} → Which → Result T RunFault → Type 0
 GoesPast which result = IfErr result (λ fault. StopsAt which fault → ⊥)
 
--- the run stopped at none of these inputs
-abbrev pub GoesPastAll : {T : Type 0} → List Which → Result T RunFault → Type 0
-GoesPastAll [] result = ⊤
-GoesPastAll (which ∷ more) result = GoesPast which result × GoesPastAll more result
-
 -- a failed read of the input is reported exactly if its device counted one, and it is not tried again
 pub record ReadsOnce {T I : Type 0} (which : Which) (result : Result T RunFault) (failed : I → ℕ) (old new : I) : Type 0 where
   pub device : (result ≡ Err (RunFault.Device which)) ↔ (failed old < failed new)
   pub once : CountsAtMostOne (failed old) (failed new)
 
--- the same holds, and the input is refused only for a fault that it has
-pub record ReadsOrRefuses {T I : Type 0} (which : Which) (result : Result T RunFault) (gives : I → List ℕ → Result ℕ DeviceFault →
-    I → Type 0) (failed : I → ℕ) (old new : I) (IsRefused : Reading → ReadFault → Type 0) : Type 0 where
-  pub refused : (fault : ReadFault) → result ≡ Err (RunFault.Read which fault) → IsRefused (reading gives old new) fault
-  pub once : ReadsOnce which result failed old new
-
--- the same holds, and the input is as it was unless the earlier inputs were accepted
-pub record ReadsAfter {T I : Type 0} (earlier : List Which) (accepted : Type 0) (which : Which) (result : Result T RunFault)
-    (gives : I → List ℕ → Result ℕ DeviceFault → I → Type 0) (failed : I → ℕ) (old new : I)
-    (IsRefused : Reading → ReadFault → Type 0) : Type 0 where
-  pub reads : ReadsOrRefuses which result gives failed old new IsRefused
-  pub unread : (new ≡ old) ⊎ (GoesPastAll earlier result × accepted)
-
 -- a failed write is reported exactly if the output counted one, and it is not tried again
 pub record WritesOnce {T O : Type 0} (result : Result T RunFault) (failed idle : O → ℕ) (old new : O) : Type 0 where
   pub device : IsErrAnd result IsWrite ↔ ((failed old < failed new) ⊎ (idle old < idle new))
   pub once : CountsAtMostOneOf (failed old) (failed new) (idle old) (idle new)
-
--- the same holds, and the output is as it was unless all inputs were accepted. If it changes, the run succeeds or a write failed
-pub record WritesAfter {T O : Type 0} (accepted : Type 0) (result : Result T RunFault) (failed idle : O → ℕ) (old new : O) : Type 0 where
-  pub writes : WritesOnce result failed idle old new
-  pub unwritten : (new ≡ old) ⊎ (IfErr result IsWrite × accepted)
 
 -- the output took a text with P: the whole text if the run succeeds, its first bytes if a write failed. `gives` says what one write may do
 abbrev pub Delivers : {T S : Type 0} → Result T RunFault → (gives : S → List ℕ → Result ℕ DeviceFault → S → Type 0) → (old new : S) →

@@ -1,21 +1,15 @@
 -- Where the hierarchy of a run comes from, and the promises on a saved one and on an order.
-use Rattle.std.specs.Prelude.{◌≡◌, ◌⊎◌, ℕ, if◌then◌else◌, [], ◌∷◌, List, Option, Some, None}
-use Rattle.std.specs.Prelude.{Result, Err, ⊤, take}
+use Rattle.std.specs.Prelude.{◌≡◌, ◌⊎◌, ℕ, if◌then◌else◌, [], List, Option, Some, None}
+use Rattle.std.specs.Prelude.{Result, ⊤}
 use Rattle.ch_graph.specs.Graph.{Network, IsWithinLimits}
 use Rattle.ch_graph.specs.Saved.{OrderAndLegs}
-use Rattle.ch_read.specs.declared.fault.ReadFault.{ReadFault}
-use Rattle.ch_read.specs.declared.form.Form.TheVariants as Form
-use Rattle.ch_read.specs.Checks.{IsFault}
 use Rattle.ch_read.specs.Names.{NamesSaved}
-use Rattle.ch_hierarchy.specs.declared.fault.CheckFault.{CheckFault}
 use Rattle.ch_hierarchy.specs.Hierarchy.{LevelsAndLegs}
 use Rattle.ch_hierarchy.specs.Kept.{IsKept}
-use Rattle.ch_hierarchy.specs.Saved.{NamesKept, IsFirstFault, IsOrderOf}
-use Rattle.ch_contract.specs.declared.measure.OrderBy.{OrderBy}
+use Rattle.ch_hierarchy.specs.Saved.{NamesKept, IsOrderOf}
 use Rattle.ch_contract.specs.declared.measure.OrderBy.TheVariants.{Depth}
 use Rattle.ch_contract.specs.Built.{IsHierarchyBy}
-use Rattle.ch_contract.specs.Like.{IsHierarchyLike, given_count}
-use Rattle.ch_order.specs.Crowded.{HasCrowded}
+use Rattle.ch_contract.specs.Like.{IsHierarchyLike}
 use Rattle.ch_text.specs.declared.device.DeviceFault.{DeviceFault}
 use Rattle.ch_run.specs.declared.fault.Which.{Which}
 use Rattle.ch_run.specs.declared.needed.Needed.{Needed}
@@ -26,7 +20,7 @@ use Rattle.ch_order.specs.Quick.{IsHierarchyAfter}
 use Rattle.ch_job.specs.declared.source.Source.{Source}
 use Rattle.ch_job.specs.declared.source.Source.TheVariants.{Built, Customized, Dissected, Like, Saved}
 use Rattle.ch_run.specs.Customized.{IsCustomizedIn, IsDissected}
-use Rattle.ch_run.specs.Run.{AcceptsGraph, Reading, ReadsAfter, ReadsAll, ReadsGraph, IsOf, reading, SourceReading, NoFile}
+use Rattle.ch_run.specs.Run.{Reading, ReadsAll, ReadsGraph, IsOf, reading, SourceReading, NoFile}
 use Rattle.ch_run.specs.Run.{CustomizedFile, FoundOrder, SavedFile, OrderFile}
 use Rattle.ch_run.specs.Text.{writes_routes}
 
@@ -125,62 +119,6 @@ IsToSave options g h H = IsServing (needed_to_save options) options.hops.number 
 -- the hierarchy that routes go by, with these options
 abbrev pub IsOfRoutes : Options → Network → Option LevelsAndLegs → LevelsAndLegs → Type 0
 IsOfRoutes options g h = IsServing (InOrder options.order) options.hops.number g h
-
--- the input was read to its end and has this fault as a saved hierarchy on a graph with this many nodes
-abbrev pub IsSavedRefused : Reading → ℕ → ReadFault → Type 0
-IsSavedRefused saved nodes fault = ReadsAll saved (λ bytes. IsFault (Form.Saved nodes) bytes fault.line fault.kind)
-
--- the graph was accepted, but the lines of the saved hierarchy have this fault
-abbrev pub HasSavedRefused : Reading → Reading → ReadFault → Type 0
-HasSavedRefused graph saved fault = (g : Network) × ReadsGraph graph g × IsSavedRefused saved g.nodes fault
-
--- the graph was accepted and the saved hierarchy was read, but this is its first fault on the graph
-abbrev pub HasCheckRefused : Reading → Reading → CheckFault → Type 0
-HasCheckRefused graph saved fault = (g : Network) × (s : OrderAndLegs) × ReadsGraph graph g × ReadsSaved saved g.nodes s
-    × IsFirstFault g s fault
-
--- the graph was accepted and the order was read, but it does not have each node of the graph once
-abbrev pub HasOrderRefused : Reading → Reading → Type 0
-HasOrderRefused graph order = (g : Network) × (s : OrderAndLegs) × ReadsGraph graph g × ReadsSaved order g.nodes s
-    × (IsOrderOf g.nodes s.order → ⊥)
-
--- the graph was accepted and the order was read, but too many legs touch this node in its turn among the given ones
-abbrev pub HasCrowdedOrder : Reading → Reading → (fresh hops : ℕ) → ℕ → Type 0
-HasCrowdedOrder graph order fresh hops node = (g : Network) × (s : OrderAndLegs) × ReadsGraph graph g × ReadsSaved order g.nodes s
-    × HasCrowded g hops (take (given_count g.nodes fresh) s.order) node
-
--- a run reads a saved hierarchy after the graph. It refuses it only for a fault of its lines, or for its first fault on the graph
-pub record ReadsChecked {T S : Type 0} (graph : Reading) (result : Result T RunFault)
-    (gives : S → List ℕ → Result ℕ DeviceFault → S → Type 0) (failed : S → ℕ) (old new : S) : Type 0 where
-  pub lines : ReadsAfter (Which.Graph ∷ []) (AcceptsGraph graph) Which.Saved result gives failed old new (HasSavedRefused graph)
-  pub check : (fault : CheckFault) → result ≡ Err (RunFault.Check fault) → HasCheckRefused graph (reading gives old new) fault
-
--- a run reads an order after the graph. It refuses it only for a fault of its lines, or if it does not have each node once, or if too
--- many legs touch a given node in its turn
-pub record ReadsOrder {T S : Type 0} (graph : Reading) (fresh hops : ℕ) (result : Result T RunFault)
-    (gives : S → List ℕ → Result ℕ DeviceFault → S → Type 0) (failed : S → ℕ) (old new : S) : Type 0 where
-  pub lines : ReadsAfter (Which.Graph ∷ []) (AcceptsGraph graph) Which.Order result gives failed old new (HasSavedRefused graph)
-  pub order : result ≡ Err RunFault.Order → HasOrderRefused graph (reading gives old new)
-  pub crowded : (node : ℕ) → result ≡ Err (RunFault.Crowded node) → HasCrowdedOrder graph (reading gives old new) fresh hops node
-
--- a run reads an order after the graph to customize the hierarchy in it. It refuses it only for a fault of its lines, or if it does not
--- have each node once
-pub record ReadsTopology {T S : Type 0} (graph : Reading) (result : Result T RunFault)
-    (gives : S → List ℕ → Result ℕ DeviceFault → S → Type 0) (failed : S → ℕ) (old new : S) : Type 0 where
-  pub lines : ReadsAfter (Which.Graph ∷ []) (AcceptsGraph graph) Which.Order result gives failed old new (HasSavedRefused graph)
-  pub order : result ≡ Err RunFault.Order → HasOrderRefused graph (reading gives old new)
-  pub crowded : (node : ℕ) → result ≡ Err (RunFault.Crowded node) → ⊥
-
--- the promise of a run on the source of its hierarchy. A source without an input has none afterwards, and the others stay what they are
-abbrev pub ReadsSource : {T S : Type 0} → Reading → Result T RunFault → (gives : S → List ℕ → Result ℕ DeviceFault → S → Type 0) →
-    (S → ℕ) → Source S → Source S → Type 0
-ReadsSource graph result gives failed Built new = new ≡ Built
-ReadsSource graph result gives failed (Saved old) (Saved new) = ReadsChecked graph result gives failed old new
-ReadsSource graph result gives failed (Like old fresh hops) (Like new fresh' hops') =
-    ReadsOrder graph fresh.number hops.number result gives failed old new
-ReadsSource graph result gives failed (Customized old hops) (Customized new hops') = ReadsTopology graph result gives failed old new
-ReadsSource graph result gives failed (Dissected hops) new = new ≡ Dissected hops
-ReadsSource graph result gives failed _ _ = ⊥
 
 -- the faults that reading the graph and a saved hierarchy can end in: one is refused or can't be read, or there is no memory
 abbrev pub IsOfChecked : RunFault → Type 0

@@ -1,10 +1,9 @@
 -- The promises of a run that makes a table.
 use Rattle.std.specs.Prelude.{◌⊎◌, ℕ, List}
-use Rattle.ch_read.specs.declared.fault.ReadFault.{ReadFault}
 use Rattle.ch_run.specs.declared.fault.RunFault.{RunFault}
 use Rattle.ch_job.specs.declared.options.Options.{Options}
-use Rattle.ch_run.specs.Lists.{AcceptsList, HaveCellsRefused, HaveTargetsRefused, IsOfLists, ReadsLists}
-use Rattle.ch_run.specs.Run.{Reading, IsListRefused, IsWrite, SourceReading}
+use Rattle.ch_run.specs.Lists.{AcceptsList, HaveCellsRefused, IsOfLists, ReadsLists}
+use Rattle.ch_run.specs.Run.{Reading, IsWrite, SourceReading}
 use Rattle.ch_run.specs.Source.{IsOfLoading, WithLoaded}
 use Rattle.ch_text.specs.TableText.{IsTableText}
 
@@ -22,14 +21,6 @@ AcceptsSources graph source sources = WithLoaded graph source (λ g _. AcceptsLi
 -- all of these were accepted, and then the targets, and the lists don't make too many cells
 abbrev pub AcceptsLists : Reading → SourceReading → Reading → Reading → Type 0
 AcceptsLists graph source sources targets = WithLoaded graph source (λ g _. (from to : List ℕ) × ReadsLists sources targets g.nodes from to)
-
--- the graph and the file for the hierarchy, if one is read, were accepted, but the sources have this fault
-abbrev pub HasSourcesRefused : Reading → SourceReading → Reading → ReadFault → Type 0
-HasSourcesRefused graph source sources fault = WithLoaded graph source (λ g _. IsListRefused sources g.nodes fault)
-
--- all earlier inputs were accepted, but the targets have this fault
-abbrev pub HasTargetsRefused : Reading → SourceReading → Reading → Reading → ReadFault → Type 0
-HasTargetsRefused graph source sources targets fault = WithLoaded graph source (λ g _. HaveTargetsRefused sources targets g.nodes fault)
 
 -- all inputs were accepted, but the lists make too many cells
 abbrev pub HasCellsRefused : Reading → SourceReading → Reading → Reading → Type 0

@@ -5,7 +5,7 @@ use Rattle.ch_run.proofs.Counted.{writes_once}
 use Rattle.ch_run.proofs.Owed.{ends_as, err_as, err_is}
 use Rattle.ch_line.specs.Line.{named_in}
 use Rattle.ch_line.proofs.Opening.{stops_no_write}
-use Rattle.ch_line.proofs.Told.{run_tells}
+use Rattle.ch_line.proofs.Told.{run_counts}
 use Rattle.ch_line.proofs.run.run_line.Goals as goal
 
 -- a file isn't opened
@@ -22,12 +22,12 @@ returns-in_err-job-clause-output g c =
 pub returns : goal.returns
 returns g c =
     let run = c.run_job-result in
-    let told = run_tells g.F.Input.Input.origin g.met.F.Input.Input.counts g.met.J.Input.counts g.met.O.Output.counts c.in_ok-job.job
-    run.new.job c.args.requests.now run.new.requests c.args.output.now run.new.output run.result run.ensures.same run.ensures.went in
     let job = c.in_ok-job in
     let e = run.ensures in
+    let counts = run_counts g.F.Input.Input.read_gives g.J.Input.read_gives g.O.Output.write_gives c.args.requests.now run.new.requests
+    c.args.output.now run.new.output run.result job.job run.new.job e.went g.met.J.Input.counts g.met.O.Output.counts in
     record {
       went = inr (job.job, run.new.job, _, job.ensures.opened, job.ensures.same, e.went, e.same, c.close_job.ensures);
-      requests_once = told.requests_once;
-      output = told.output_told;
+      requests_once = counts.0;
+      output = counts.1;
     }

@@ -7,13 +7,13 @@ use Rattle.ch_run.specs.Run.{reading}
 use Rattle.ch_run.proofs.run.table.run_table.Goals as goal
 
 pub returns-in_err-loaded : goal.returns-in_err-loaded
-returns-in_err-loaded g c = ended (λ went. (table_told c.args.options.now went).later.1.1.1.delivers)
+returns-in_err-loaded g c = ended (λ went. (table_told c.args.options.now went).later.1.1.1.written)
     (loads_stops _ _ _ _ _ _ c.from_residual.ensures.1 (refl, refl, refl) c.in_err-loaded.ensures.went) (search rules)
 
 pub returns-in_err-sources : goal.returns-in_err-sources
 returns-in_err-sources g c =
     let ends = rw c.graph.ensures.graph at c.in_err-sources.ensures.read in
-    ended (λ went. (table_told c.args.options.now went).later.1.1.1.delivers)
+    ended (λ went. (table_told c.args.options.now went).later.1.1.1.written)
     (loads_serving _ _ _ _ _ _ _ (λ h place. inl (err_as _ _ _ c.from_residual-in_err-sources.ensures.1 ends, (refl, refl)))
     c.in_ok-loaded.ensures.went) (search rules)
 
@@ -21,7 +21,7 @@ pub returns-in_err-targets : goal.returns-in_err-targets
 returns-in_err-targets g c =
     let from = rw c.graph.ensures.graph at c.in_ok-sources.ensures.read in
     let ends = err_as _ _ _ c.from_residual-in_err-targets.ensures.1 (rw c.graph-2.ensures.graph at c.in_err-targets.ensures.read) in
-    ended (λ went. (table_told c.args.options.now went).later.1.1.1.delivers)
+    ended (λ went. (table_told c.args.options.now went).later.1.1.1.written)
     (loads_serving _ _ _ _ _ _ _ (λ h place. inr (from.0, _, from.1, from.2, inl (ends, refl))) c.in_ok-loaded.ensures.went) (search rules)
 
 pub returns-then-len : goal.returns-then-len
@@ -43,7 +43,7 @@ returns-in_err-parts g c =
     let to = rw c.graph-2.ensures.graph at c.in_ok-targets.ensures.read in
     let few = rw (c.len.ensures ∙ c.in_ok-sources.sources.ok.0, c.len-2.ensures ∙ c.in_ok-targets.targets.ok.0) at c.if-len.false in
     let none = writes_none _ _ _ _ c.from_residual-in_err-parts.ensures.1 in
-    ended (λ went. (table_told c.args.options.now went).later.1.1.1.delivers)
+    ended (λ went. (table_told c.args.options.now went).later.1.1.1.written)
     (loads_serving _ _ _ _ _ _ _ (λ h place.
     inr (from.0, _, from.1, from.2, inr (to.0, _, to.1, to.2, inr (λ many. absurd (omega arith), none)))) c.in_ok-loaded.ensures.went)
     (search rules)
@@ -55,7 +55,7 @@ returns g c =
     let few = rw (c.len.ensures ∙ c.in_ok-sources.sources.ok.0, c.len-2.ensures ∙ c.in_ok-targets.targets.ok.0) at c.if-len.false in
     let text = rw (c.deref-2.ensures.value, c.deref.ensures.value) at c.in_ok-parts.ensures.text in
     let wrote = writes_weaker _ _ _ _ _ c.write_parts.result (rw c.deref-3.ensures.value text) c.write_parts.ensures.wrote in
-    ended (λ went. (table_told c.args.options.now went).later.1.1.1.delivers)
+    ended (λ went. (table_told c.args.options.now went).later.1.1.1.written)
     (loads_serving _ _ _ _ _ _ _ (λ h place.
     inr (from.0, _, from.1, from.2, inr (to.0, _, to.1, to.2, inr (λ many. absurd (omega arith), wrote)))) c.in_ok-loaded.ensures.went)
     (search rules)
