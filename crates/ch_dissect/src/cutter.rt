@@ -100,15 +100,7 @@ impl Cutter {
         if start >= end || end > parts.count {
             return Ok(());
         }
-        let part = mem::replace(&mut self.part, Part::none(alloc)?);
-        self.part = part.laid(
-            rows,
-            &parts.nodes.as_slice()[start as usize..end as usize],
-            end - start,
-            parts.places.as_slice(),
-            start,
-            &mut self.cursors,
-        )?;
+        self.lay(alloc, rows, parts, start, end)?;
         if self.part.count <= MOST_UNCUT {
             return self.put_few(parts, start);
         }
@@ -119,6 +111,32 @@ impl Cutter {
         self.separators.begin(&self.part)?;
         self.find_separator(last)?;
         self.put_separator(parts, start)
+    }
+
+    /// Lays out the part between two places.
+    fn lay(
+        &mut self,
+        alloc: Global,
+        rows: &Neighbours,
+        parts: &Parts,
+        start: u32,
+        end: u32,
+    ) -> Result<(), AllocError>
+        requires rows { parts.now.count ≡ rows.now.count }
+        requires start { start < end }
+        requires end { end ≤ parts.now.count }
+        ensures { OnOk result (start + self.new.part.count ≡ end) }
+    {
+        let part = mem::replace(&mut self.part, Part::none(alloc)?);
+        self.part = part.laid(
+            rows,
+            &parts.nodes.as_slice()[start as usize..end as usize],
+            end - start,
+            parts.places.as_slice(),
+            start,
+            &mut self.cursors,
+        )?;
+        Ok(())
     }
 
     /// Cuts the part along a walk from this node, and across.

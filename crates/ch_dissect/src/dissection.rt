@@ -10,7 +10,7 @@ use crate::parts::Parts;
 use crate::sharing::in_order;
 use ch_graph::Graph;
 use ch_work::{Crew, Gate};
-use std::alloc::AllocError;
+use std::alloc::{AllocError, Global};
 use std::thread::Threads;
 
 /// Returns a nested dissection order of the nodes of a graph. Neither weights nor directions of arcs count.
@@ -31,18 +31,55 @@ pub fn dissect<R: Threads + Sync, G: Gate>(
 ) -> Result<Vec<u32>, AllocError>
     ensures { IfOk result (λ order. IsOrderOf graph.now.nodes order.items) }
 {
-    let alloc = crew.alloc;
-    let rows = Neighbours::of(alloc, graph)?;
-    let chains = Chains::of(alloc, rows)?;
-    let core = Core::of(alloc, &chains)?;
+    let Reduced { core, order } = Reduced::of(crew.alloc, graph)?;
     let parts = in_order(crew, &core.rows)?;
-    let mut order = chains.order;
-    push_names(&core, &parts, &mut order)?;
+    joined(crew.alloc, graph, &core, &parts, order)
+}
+
+/// What is left of a graph once the nodes of chains are taken, and these nodes in order.
+#[derive(Drop)]
+pub(crate) struct Reduced {
+    pub(crate) core: Core,
+    pub(crate) order: Vec<u32>,
+}
+
+impl Reduced {
+    /// Takes the nodes of chains out of a graph.
+    ///
+    /// # Errors
+    /// `AllocError` if there is no memory.
+    pub(crate) fn of(alloc: Global, graph: &Graph) -> Result<Reduced, AllocError> {
+        let rows = Neighbours::of(alloc, graph)?;
+        let chains = Chains::of(alloc, rows)?;
+        let core = Core::of(alloc, &chains)?;
+        Ok(Reduced {
+            core,
+            order: chains.order,
+        })
+    }
+}
+
+/// Returns the order of all nodes: first those of chains, and then those of the core in the order of its parts.
+///
+/// # Errors
+/// `AllocError` if there is no memory.
+pub(crate) fn joined(
+    alloc: Global,
+    graph: &Graph,
+    core: &Core,
+    parts: &Parts,
+    chains: Vec<u32>,
+) -> Result<Vec<u32>, AllocError>
+    requires { parts.now.count ≡ core.now.rows.count }
+    ensures { IfOk result (λ order. IsOrderOf graph.now.nodes order.items) }
+{
+    let mut order = chains;
+    push_names(core, parts, &mut order)?;
     completed(alloc, graph.nodes(), order.as_slice())
 }
 
 /// Appends the nodes of a core in the order of its parts.
-pub(crate) fn push_names(core: &Core, parts: &Parts, order: &mut Vec<u32>) -> Result<(), AllocError>
+fn push_names(core: &Core, parts: &Parts, order: &mut Vec<u32>) -> Result<(), AllocError>
     requires { parts.now.count ≡ core.now.rows.count }
 {
     for place in 0..parts.nodes.len() {

@@ -131,19 +131,46 @@ impl Flow {
             if shares[node as usize] == Share::Last {
                 return Ok(true);
             }
-            let next = next_arc(part, &self.free, &self.levels, &mut self.cursors, node);
-            if let Some(arc) = next {
-                self.way.push(arc)?;
-                node = part.heads[arc as usize];
-            } else {
-                let Some(arc) = self.way.pop() else {
-                    return Ok(false);
-                };
-                node = part.heads[part.twins[arc as usize] as usize];
-                self.cursors[node as usize] = arc.saturating_add(1);
-            }
+            node = match self.step_on(part, node)? {
+                Some(head) => head,
+                None => match self.step_back(part) {
+                    Some(tail) => tail,
+                    None => return Ok(false),
+                },
+            };
         }
         Ok(false)
+    }
+
+    /// Takes the next arc of a node, and returns the node that it leads to, or `None` if no arc takes more.
+    #[inline]
+    fn step_on(&mut self, part: &Part, node: u32) -> Result<Option<u32>, AllocError>
+        requires node { node < part.now.count }
+        requires flow { IsFlowOf part.now self.old }
+        ensures flow { OnOk result (IsFlowOf part.now self.new) }
+        ensures node { IfOk result (λ next. MatchOption next ⊤ (λ head. head < part.now.count)) }
+    {
+        let next = next_arc(part, &self.free, &self.levels, &mut self.cursors, node);
+        let Some(arc) = next else {
+            return Ok(None);
+        };
+        self.way.push(arc)?;
+        Ok(Some(part.heads[arc as usize]))
+    }
+
+    /// Gives up the last arc of the way for good, and returns the node that it leaves, or `None` if there is no arc.
+    #[inline]
+    fn step_back(&mut self, part: &Part) -> Option<u32>
+        requires { IsFlowOf part.now self.old }
+        ensures flow { IsFlowOf part.now self.new }
+        ensures node { MatchOption result ⊤ (λ tail. tail < part.now.count) }
+    {
+        let Some(arc) = self.way.pop() else {
+            return None;
+        };
+        let tail = part.heads[part.twins[arc as usize] as usize];
+        self.cursors[tail as usize] = arc.saturating_add(1);
+        Some(tail)
     }
 }
 

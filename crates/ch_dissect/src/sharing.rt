@@ -88,12 +88,36 @@ pub(crate) fn in_order<R: Threads + Sync, G: Gate>(
 ) -> Result<Parts, AllocError>
     ensures { IfOk result (λ parts. parts.count ≡ rows.now.count) }
 {
-    let mut parts = Parts::all(crew.alloc, rows.count)?;
     if !crew.plan.shares(rows.count as usize, LEAST_SHARED) {
-        let mut cutter = Cutter::new(crew.alloc)?;
-        let _none = cutter.cut_all(crew.alloc, rows, &mut parts, 0)?;
-        return Ok(parts);
+        return in_order_alone(crew.alloc, rows);
     }
+    let mut parts = Parts::all(crew.alloc, rows.count)?;
+    cut_rounds(crew, rows, &mut parts)?;
+    Ok(parts)
+}
+
+/// Puts the nodes of a graph in order, without another worker.
+///
+/// # Errors
+/// `AllocError` if there is no memory.
+pub(crate) fn in_order_alone(alloc: Global, rows: &Neighbours) -> Result<Parts, AllocError>
+    ensures { IfOk result (λ parts. parts.count ≡ rows.now.count) }
+{
+    let mut parts = Parts::all(alloc, rows.count)?;
+    let mut cutter = Cutter::new(alloc)?;
+    let _none = cutter.cut_all(alloc, rows, &mut parts, 0)?;
+    Ok(parts)
+}
+
+/// Lets the workers cut the parts, in rounds.
+fn cut_rounds<R: Threads + Sync, G: Gate>(
+    crew: &Crew<'_, R, G>,
+    rows: &Neighbours,
+    parts: &mut Parts,
+) -> Result<(), AllocError>
+    requires { parts.old.count ≡ rows.now.count }
+    ensures { parts.new.count ≡ parts.old.count }
+{
     let by_part = Crew {
         rt: crew.rt,
         alloc: crew.alloc,
@@ -101,10 +125,9 @@ pub(crate) fn in_order<R: Threads + Sync, G: Gate>(
         gate: crew.gate,
     };
     for round in 1..ROUNDS {
-        cut_round(&by_part, rows, rows.count >> round, &mut parts)?;
+        cut_round(&by_part, rows, rows.count >> round, parts)?;
     }
-    cut_round(&by_part, rows, 0, &mut parts)?;
-    Ok(parts)
+    cut_round(&by_part, rows, 0, parts)
 }
 
 /// Lets the workers cut the pending parts with more than `least` nodes, and puts the nodes where they put them.

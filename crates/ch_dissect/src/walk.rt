@@ -45,29 +45,31 @@ fn walk_on(part: &Part, distances: &mut [u32], queue: &mut Vec<u32>) -> Result<(
         if place >= queue.len() {
             break;
         }
-        reach_from(part, queue[place], distances, queue)?;
+        let node = queue[place];
+        let next = distances[node as usize].saturating_add(1);
+        reach_from(part, node, next, distances, queue)?;
     }
     Ok(())
 }
 
-/// Reaches the neighbours of a node that were not reached before.
+/// Gives this label to the neighbours of a node that have none, and puts them into the queue.
 #[inline]
 fn reach_from(
     part: &Part,
     node: u32,
-    distances: &mut [u32],
+    label: u32,
+    labels: &mut [u32],
     queue: &mut Vec<u32>,
 ) -> Result<(), AllocError>
     requires node { node < part.now.count }
-    requires distances { length distances.old ≡ part.now.count }
+    requires labels { length labels.old ≡ part.now.count }
     requires queue { AreBelow part.now.count queue.old.items }
     ensures { AreBelow part.now.count queue.new.items }
 {
-    let next = distances[node as usize].saturating_add(1);
     for arc in part.starts[node as usize]..part.starts[node as usize + 1] {
         let head = part.heads[arc as usize];
-        if distances[head as usize] == UNREACHED {
-            distances[head as usize] = next;
+        if labels[head as usize] == UNREACHED {
+            labels[head as usize] = label;
             queue.push(head)?;
         }
     }
@@ -115,30 +117,7 @@ fn flood(
         if place >= queue.len() {
             break;
         }
-        flood_from(part, queue[place], group, groups, queue)?;
-    }
-    Ok(())
-}
-
-/// Writes this number for the neighbours of a node that have none.
-fn flood_from(
-    part: &Part,
-    node: u32,
-    group: u32,
-    groups: &mut [u32],
-    queue: &mut Vec<u32>,
-) -> Result<(), AllocError>
-    requires node { node < part.now.count }
-    requires groups { length groups.old ≡ part.now.count }
-    requires queue { AreBelow part.now.count queue.old.items }
-    ensures { AreBelow part.now.count queue.new.items }
-{
-    for arc in part.starts[node as usize]..part.starts[node as usize + 1] {
-        let head = part.heads[arc as usize];
-        if groups[head as usize] == UNREACHED {
-            groups[head as usize] = group;
-            queue.push(head)?;
-        }
+        reach_from(part, queue[place], group, groups, queue)?;
     }
     Ok(())
 }
