@@ -4,6 +4,7 @@ ghost use Rattle.ch_dissect.specs.Rows.{AreBelow};
 
 use crate::chains::Chains;
 use crate::neighbours::Neighbours;
+use crate::nodes::push_node;
 use std::alloc::{AllocError, Global};
 
 /// The nodes that are left, and their neighbours by number.
@@ -56,12 +57,13 @@ fn number_left(
 {
     let mut count = 0;
     for node in 0..chains.rows.count {
-        if !chains.taken[node as usize] {
-            numbers[node as usize] = count;
-            names.push(node)?;
-            counts.push(chains.rows.degree(node))?;
-            count += 1;
+        if chains.taken[node as usize] {
+            continue;
         }
+        numbers[node as usize] = count;
+        push_node(chains.rows.count, node, names)?;
+        counts.push(chains.rows.degree(node))?;
+        count += 1;
     }
     Ok(count)
 }

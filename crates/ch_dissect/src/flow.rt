@@ -3,6 +3,7 @@ ghost use Rattle.std.specs.Prelude.{◌≡◌, ◌+◌, ◌<◌, ◌≤◌, leng
 ghost use Rattle.ch_dissect.specs.Rows.{AreBelow};
 ghost use Rattle.ch_dissect.specs.Flows.{IsFlowOf, IsLabelled};
 
+use crate::nodes::push_node;
 use crate::part::Part;
 use crate::shares::Share;
 use crate::walk::UNREACHED;
@@ -187,10 +188,12 @@ fn label_first(
     ensures { AreBelow part.now.count queue.new.items }
 {
     for node in 0..part.count {
-        if shares[node as usize] == Share::First {
-            levels[node as usize] = 0;
-            queue.push(node)?;
+        let is_first = shares[node as usize] == Share::First;
+        if !is_first {
+            continue;
         }
+        levels[node as usize] = 0;
+        push_node(part.count, node, queue)?;
     }
     Ok(())
 }
@@ -240,14 +243,15 @@ fn label_from(
     let mut is_reached = false;
     for arc in part.starts[node as usize]..part.starts[node as usize + 1] {
         let head = part.heads[arc as usize];
-        if free[arc as usize] > 0 && levels[head as usize] == UNREACHED {
-            levels[head as usize] = next;
-            if shares[head as usize] == Share::Last {
-                is_reached = true;
-            } else {
-                queue.push(head)?;
-            }
+        if free[arc as usize] == 0 || levels[head as usize] != UNREACHED {
+            continue;
         }
+        levels[head as usize] = next;
+        if shares[head as usize] == Share::Last {
+            is_reached = true;
+            continue;
+        }
+        push_node(part.count, head, queue)?;
     }
     Ok(is_reached)
 }

@@ -15,6 +15,7 @@ mod cutter;
 mod dissection;
 mod flow;
 mod neighbours;
+mod nodes;
 mod order;
 mod part;
 mod parts;

@@ -127,9 +127,10 @@ fn push_row(
 {
     for place in rows.starts[node as usize]..rows.ends[node as usize] {
         let number = places[rows.heads[place as usize] as usize].wrapping_sub(start);
-        if (number as usize) < count {
-            heads.push(number)?;
+        if (number as usize) >= count {
+            continue;
         }
+        heads.push(number)?;
     }
     Ok(())
 }

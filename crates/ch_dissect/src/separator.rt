@@ -4,6 +4,7 @@ ghost use Rattle.ch_dissect.specs.Rows.{AreBelow};
 ghost use Rattle.ch_dissect.specs.Flows.{IsLabelled};
 
 use crate::flow::Flow;
+use crate::nodes::push_node;
 use crate::part::Part;
 use crate::shares::Share;
 use crate::walk::UNREACHED;
@@ -158,9 +159,10 @@ fn push_last(
     for node in 0..part.count {
         let is_last = shares[node as usize] == Share::Last;
         sides.push(!is_last)?;
-        if is_last {
-            queue.push(node)?;
+        if !is_last {
+            continue;
         }
+        push_node(part.count, node, queue)?;
     }
     Ok(())
 }
@@ -202,10 +204,11 @@ fn turn_from(
 {
     for arc in part.starts[node as usize]..part.starts[node as usize + 1] {
         let head = part.heads[arc as usize];
-        if sides[head as usize] && free[part.twins[arc as usize] as usize] > 0 {
-            sides[head as usize] = false;
-            queue.push(head)?;
+        if !sides[head as usize] || free[part.twins[arc as usize] as usize] == 0 {
+            continue;
         }
+        sides[head as usize] = false;
+        push_node(part.count, head, queue)?;
     }
     Ok(())
 }

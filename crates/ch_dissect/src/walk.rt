@@ -2,6 +2,7 @@
 ghost use Rattle.std.specs.Prelude.{◌≡◌, ◌+◌, ◌<◌, ◌≤◌, length, vec_len, IfOk, OnOk};
 ghost use Rattle.ch_dissect.specs.Rows.{AreBelow};
 
+use crate::nodes::push_node;
 use crate::part::Part;
 use std::alloc::{AllocError, Global};
 
@@ -68,10 +69,11 @@ fn reach_from(
 {
     for arc in part.starts[node as usize]..part.starts[node as usize + 1] {
         let head = part.heads[arc as usize];
-        if labels[head as usize] == UNREACHED {
-            labels[head as usize] = label;
-            queue.push(head)?;
+        if labels[head as usize] != UNREACHED {
+            continue;
         }
+        labels[head as usize] = label;
+        push_node(part.count, head, queue)?;
     }
     Ok(())
 }
