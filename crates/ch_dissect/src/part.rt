@@ -3,6 +3,7 @@ ghost use Rattle.std.specs.Prelude.{◌≡◌, ◌+◌, ◌<◌, ◌≤◌, leng
 ghost use Rattle.ch_dissect.specs.Rows.{AreBelow, AreUpTo, IsPart};
 
 use crate::neighbours::Neighbours;
+use crate::nodes::push_node;
 use std::alloc::{AllocError, Global};
 
 /// The edges within a part. Each edge is two arcs, one of each of its ends.
@@ -62,7 +63,7 @@ impl Part {
         } = self;
         starts.clear();
         heads.clear();
-        push_rows(rows, nodes, places, start, &mut starts, &mut heads)?;
+        push_rows(rows, nodes, count, places, start, &mut starts, &mut heads)?;
         cursors.clear();
         cursors.extend_from_slice(starts.as_slice())?;
         twins.clear();
@@ -88,22 +89,24 @@ fn arcs_of(heads: &[u32]) -> u32
 fn push_rows(
     rows: &Neighbours,
     nodes: &[u32],
+    count: u32,
     places: &[u32],
     start: u32,
     starts: &mut Vec<u32>,
     heads: &mut Vec<u32>,
 ) -> Result<(), AllocError>
     requires nodes { AreBelow rows.now.count nodes.now }
+    requires count { length nodes.now ≡ count }
     requires places { length places.now ≡ rows.now.count }
     requires starts { vec_len starts.old ≡ 0 }
     requires heads { vec_len heads.old ≡ 0 }
-    ensures starts { OnOk result (vec_len starts.new ≡ length nodes.now + 1) }
+    ensures starts { OnOk result (vec_len starts.new ≡ count + 1) }
     ensures within { OnOk result (AreUpTo (vec_len heads.new) starts.new.items) }
-    ensures heads { OnOk result (AreBelow (length nodes.now) heads.new.items) }
+    ensures heads { OnOk result (AreBelow count heads.new.items) }
 {
     for at in 0..nodes.len() {
         starts.push(arcs_of(heads))?;
-        push_row(rows, nodes[at], places, start, nodes.len(), heads)?;
+        push_row(rows, nodes[at], places, start, count, heads)?;
     }
     starts.push(arcs_of(heads))?;
     Ok(())
@@ -116,21 +119,21 @@ fn push_row(
     node: u32,
     places: &[u32],
     start: u32,
-    count: usize,
+    count: u32,
     heads: &mut Vec<u32>,
 ) -> Result<(), AllocError>
     requires node { node < rows.now.count }
     requires places { length places.now ≡ rows.now.count }
     requires heads { AreBelow count heads.old.items }
     ensures heads { AreBelow count heads.new.items }
-    ensures len { vec_len heads.old ≤ vec_len heads.new }
+    ensures len { OnOk result (vec_len heads.old ≤ vec_len heads.new) }
 {
     for place in rows.starts[node as usize]..rows.ends[node as usize] {
         let number = places[rows.heads[place as usize] as usize].wrapping_sub(start);
-        if (number as usize) >= count {
+        if number >= count {
             continue;
         }
-        heads.push(number)?;
+        push_node(count, number, heads)?;
     }
     Ok(())
 }

@@ -57,7 +57,6 @@ pub fn build_like_alone(
     ensures crowded { (v : ℕ) → result ≡ Err (LikeError.Crowded v) → HasCrowded graph.now hops.number (take (count_of graph.now.nodes fresh.number) given.now) v }
     ensures limits { IsWithinLimits graph.now }
 {
-    ask_ahead(alloc, graph)?;
     let (first, others) = split_given(alloc, graph, given, fresh)?;
     let begun = Construction::after_uncrowded(alloc, &Open, graph, first, hops)?;
     Ok(contract_begun(alloc, graph, begun, first, others, hops)?)
@@ -103,19 +102,34 @@ fn contract_in_turn(
     let mut exact = FIRST_EXACT;
     for _ in 0..TRIES {
         let keys = Keys { by, exact };
-        let begun = Construction::after(alloc, &Open, graph, given, hops)?;
-        if let Some(hierarchy) = contract_others(alloc, graph, begun, given, others, hops, keys)? {
+        if let Some(hierarchy) = contract_by(alloc, graph, given, others, hops, keys)? {
             return Ok(hierarchy);
         }
         exact = exact.saturating_mul(GROWTH);
     }
     let exact = i64::MAX;
-    let keys = Keys { by, exact };
-    let begun = Construction::after(alloc, &Open, graph, given, hops)?;
-    match contract_others(alloc, graph, begun, given, others, hops, keys)? {
+    match contract_by(alloc, graph, given, others, hops, Keys { by, exact })? {
         Some(hierarchy) => Ok(hierarchy),
         None => unreachable!(),
     }
+}
+
+/// Builds the contraction hierarchy of a graph by these keys, or returns `None` if a key comes first that is not exact. The
+/// nodes `given` are contracted first, as they come. The two lists together have each node once.
+fn contract_by(
+    alloc: Global,
+    graph: &Graph,
+    given: &[u32],
+    others: &[u32],
+    hops: HopBound,
+    keys: Keys,
+) -> Result<Option<Hierarchy>, AllocError>
+    requires order { IsOrderOf graph.now.nodes (given.now ++ others.now) }
+    ensures hierarchy { IfOk result (λ o. IfSome o (IsHierarchyFrom keys.by graph.now hops.number given.now)) }
+    ensures none { IfOk result (λ o. o ≡ None → keys.exact ≢ pos 9223372036854775807) }
+{
+    let begun = Construction::after(alloc, &Open, graph, given, hops)?;
+    contract_others(alloc, graph, begun, given, others, hops, keys)
 }
 
 /// Goes on with a construction in which the nodes `given` are contracted, as they come. Contracts the others by these keys,

@@ -125,15 +125,14 @@ pub fn build_like<R: Threads + Sync, G: Gate>(
     ensures crowded { (v : ℕ) → result ≡ Err (LikeError.Crowded v) → HasCrowded graph.now hops.number (take (count_of graph.now.nodes fresh.number) given.now) v }
     ensures limits { IsWithinLimits graph.now }
 {
-    ask_ahead(crew.alloc, graph)?;
     let (first, others) = split_given(crew.alloc, graph, given, fresh)?;
     let begun = Construction::after_uncrowded(crew.alloc, crew.gate, graph, first, hops)?;
     let by = OrderBy::Depth;
     Ok(contract_begun(crew, graph, begun, first, others, hops, by)?)
 }
 
-/// Splits a given order into the nodes that come in this order and those that are ordered afresh, if it has each node of
-/// the graph once and these per cent are ordered afresh.
+/// Asks ahead for memory. Then it splits a given order into the nodes that come in this order and those that are ordered
+/// afresh, if it has each node of the graph once and these per cent are ordered afresh.
 pub(super) fn split_given<'a>(
     alloc: Global,
     graph: &Graph,
@@ -144,7 +143,9 @@ pub(super) fn split_given<'a>(
     ensures first { IfOk result (λ (first, others). first.now ≡ take (count_of graph.now.nodes fresh.number) given.now) }
     ensures parts { IfOk result (λ (first, others). first.now ++ others.now ≡ given.now) }
     ensures refused { result ≡ Err OrderError.Order → IsOrderOf graph.now.nodes given.now → ⊥ }
+    ensures limits { IsWithinLimits graph.now }
 {
+    ask_ahead(alloc, graph)?;
     let nodes = graph.nodes();
     let Some(levels) = levels_of(alloc, nodes, given)? else {
         return Err(OrderError::Order);

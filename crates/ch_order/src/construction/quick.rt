@@ -71,7 +71,6 @@ pub fn build_like_quickly<R: Threads + Sync, G: Gate>(
     ensures refused { result ≡ Err OrderError.Order → IsOrderOf graph.now.nodes given.now → ⊥ }
     ensures limits { IsWithinLimits graph.now }
 {
-    ask_ahead(crew.alloc, graph)?;
     let (first, _) = split_given(crew.alloc, graph, given, fresh)?;
     Ok(contract_quickly(crew, graph, first, given, hops)?)
 }

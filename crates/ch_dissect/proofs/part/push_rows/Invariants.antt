@@ -4,4 +4,4 @@ use Rattle.ch_dissect.specs.Rows.{AreBelow, AreUpTo}
 use Rattle.ch_dissect.proofs.part.push_rows.Given as goal
 
 abbrev pub invariant-loop-at : goal.invariant-loop-at
-invariant-loop-at l = (vec_len l.starts ≡ l.at) × AreUpTo (vec_len l.heads) l.starts.items × AreBelow (length l.nodes) l.heads.items
+invariant-loop-at l = (vec_len l.starts ≡ l.at) × AreUpTo (vec_len l.heads) l.starts.items × AreBelow l.count l.heads.items

@@ -11,4 +11,4 @@ returns-clause-few g c = rw (c.in_ok-first.ensures.first) at c.in_ok-begun.ensur
 
 pub returns-clause-kept : goal.returns-clause-kept
 returns-clause-kept g c =
-    from_kept Depth c.args.graph.now c.args.hops.number _ _ c.ask_ahead.ensures c.args.hops.in_range c.in_ok-contract_begun.ensures
+    from_kept Depth c.args.graph.now c.args.hops.number _ _ c.in_ok-first.ensures.limits c.args.hops.in_range c.in_ok-contract_begun.ensures
