@@ -1,15 +1,17 @@
 -- Given nodes that are contracted as they come, one call after the other.
-use Rattle.std.proofs.Common.{◌≡◌, ℕ, ◌+◌, ◌<◌, ◌≤◌, List, length, take, sym, ◌∙◌, ap, subst, arith, inl, inr, get_or, zero, suc}
-use Rattle.std.proofs.Common.{Contains}
+use Rattle.std.proofs.Common.{◌≡◌, ℕ, ◌+◌, ◌<◌, ◌≤◌, List, ◌++◌, length, take, sym, ◌∙◌, ap, subst, arith, inl, inr, get_or, zero, suc}
+use Rattle.std.proofs.Common.{Contains, length-append}
 use Rattle.std.specs.Prelude.{slice_index}
 use Rattle.std.proofs.lemmas.Bool.{cases_eq}
-use Rattle.std.proofs.lemmas.List.{take_more, length-take-le}
+use Rattle.std.proofs.lemmas.List.{take_more, length-take-le, get_or_append_left}
 use Rattle.ch_graph.specs.Graph.{Network}
 use Rattle.ch_contract.specs.Begun.{AreDifferentNodes, IsBegun}
 use Rattle.ch_contract.specs.Contraction.{Contracts}
 use Rattle.ch_contract.specs.Legs.{Legs, AreLegsWithin}
 use Rattle.ch_contract.specs.Remaining.{legs_of}
+use Rattle.ch_hierarchy.specs.Saved.{IsOrderOf}
 use Rattle.ch_contract.proofs.theory.Contracting.{pairs_by_needed}
+use Rattle.ch_contract.proofs.theory.GivenNodes.{order_nodes}
 use Rattle.ch_contract.proofs.theory.OneInTurn.{not_before, one_contraction, one_map}
 use Rattle.ch_order.specs.declared.construction.Construction.{Construction}
 use Rattle.ch_order.specs.Construction.{HasGiven, IsReadyFor, IsSized, IsTaken, progress_of}
@@ -92,3 +94,13 @@ few_more g h nodes k c different lt u few not j L below begun crowded = elim (ca
       (subst (λ i. IsCrowded g.nodes i (legs_of c.remaining) (get_or nodes k 0)) (sym (given_count_now g h nodes k c different lt u)) here))
   | inr ne ↦ few j L (omega arith) begun crowded
 ]
+
+-- the nodes that an order begins with are different nodes
+pub first_differ : (g : Network) (given others : List ℕ) → IsOrderOf g.nodes (given ++ others) → AreDifferentNodes g given
+first_differ g given others is =
+    let nodes = order_nodes g.nodes (given ++ others) is in
+    let size = length-append given others in (
+      λ i d lt. subst (λ z. z < g.nodes) (get_or_append_left given others d i lt) (nodes.1 i d (omega arith)),
+      λ i j d before lt e. nodes.2 i j d before (omega arith)
+          (get_or_append_left given others d i (omega arith) ∙ e ∙ sym (get_or_append_left given others d j lt)),
+    )

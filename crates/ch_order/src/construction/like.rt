@@ -8,6 +8,7 @@ ghost use Rattle.ch_order.specs.declared.construction.like.LikeError.TheVariants
 ghost use Rattle.ch_order.specs.LikeErrors.{like_error};
 ghost use Rattle.ch_order.specs.OrderText.{like_text, order_text};
 ghost use Rattle.ch_order.specs.Crowded.{HasCrowded};
+ghost use Rattle.ch_contract.specs.Begun.{AreDifferentNodes};
 ghost use Rattle.ch_contract.specs.Like.{IsHierarchyLike, given_count as count_of};
 
 use super::{Construction, contract_begun};
@@ -142,6 +143,8 @@ pub(super) fn split_given<'a>(
     ensures order { IfOk result (λ _. IsOrderOf graph.now.nodes given.now) }
     ensures first { IfOk result (λ (first, others). first.now ≡ take (count_of graph.now.nodes fresh.number) given.now) }
     ensures parts { IfOk result (λ (first, others). first.now ++ others.now ≡ given.now) }
+    ensures together { IfOk result (λ (first, others). IsOrderOf graph.now.nodes (first.now ++ others.now)) }
+    ensures different { IfOk result (λ (first, others). AreDifferentNodes graph.now first.now) }
     ensures refused { result ≡ Err OrderError.Order → IsOrderOf graph.now.nodes given.now → ⊥ }
     ensures limits { IsWithinLimits graph.now }
 {
