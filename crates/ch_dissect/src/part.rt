@@ -104,11 +104,11 @@ fn push_rows(
     ensures within { OnOk result (AreUpTo (vec_len heads.new) starts.new.items) }
     ensures heads { OnOk result (AreBelow count heads.new.items) }
 {
+    starts.push(0)?;
     for at in 0..nodes.len() {
-        starts.push(arcs_of(heads))?;
         push_row(rows, nodes[at], places, start, count, heads)?;
+        starts.push(arcs_of(heads))?;
     }
-    starts.push(arcs_of(heads))?;
     Ok(())
 }
 
