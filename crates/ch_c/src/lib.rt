@@ -1,6 +1,6 @@
 //! The calls of the library for C: an engine of `ch_engine` behind a handle of 16 bytes, which the caller keeps.
 //!
-//! It stands on ch_engine, ch_graph, ch_hierarchy, ch_read, ch_rows, ch_text, core, std_alloc and std_heap.
+//! It stands on ch_engine, ch_graph, ch_hierarchy, ch_read, ch_text, core, std_alloc and std_heap.
 //! It exports the calls that `include/chtab.h` declares. [`numbers`] is for readers alone, and proves the statuses.
 //!
 //! No call requires anything: it tests handles, lengths, nodes, sizes and bytes itself, and returns a status.

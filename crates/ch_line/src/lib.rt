@@ -1,7 +1,6 @@
 //! Runs of lines. A line says what the program is asked for. Its run opens files by their names.
 //!
-//! It stands on ch_contract, ch_graph, ch_hierarchy, ch_job, ch_read, ch_rows, ch_run, ch_text, ch_words,
-//! ch_work and thiserror. Proved of [`run_line`], over any files:
+//! It stands on ch_job, ch_run, ch_text, ch_words and thiserror. Proved of [`run_line`], over any files:
 //!
 //! - It opens the files of the line by their names, each in the place of its argument, and no other file.
 //! - The output took the text that answers the question of the line's job, of the bytes that the reads of these
