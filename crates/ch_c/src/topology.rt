@@ -1,5 +1,5 @@
 //! The handle of a topology that C holds, and the calls on it.
-ghost use Rattle.std.specs.Prelude.{◌≡◌, ◌↔◌, ◌⊎◌, length, IfErr, IfOk, IfSome, IsSome, MatchOption, None, Some};
+ghost use Rattle.std.specs.Prelude.{◌≡◌, ◌↔◌, IfErr, IfOk, IfSome, IsSome, MatchOption, None, Some};
 ghost use Rattle.ch_engine.specs.Held.{KeepsNothing};
 ghost use Rattle.ch_engine.specs.Topologies.{IsArraysTopologyError, IsOpenedWith, IsTopologyError, IsTopologyOfArrays, IsTopologyOpened, IsWeightsError};
 ghost use Rattle.ch_c.specs.Topologies.{IsCustomizing, IsOrderWritten, IsTopologyOpening, IsTopologyOpeningOfArrays, IsTopologySharing, topology_fault, topology_status};

@@ -1,5 +1,5 @@
 //! Perfect customization: the legs of a metric, lowered to the least costs of walks between their ends.
-ghost use Rattle.std.specs.Prelude.{◌≡◌, ◌≢◌, ◌+◌, ◌<◌, List, OnOk, length, slice_index};
+ghost use Rattle.std.specs.Prelude.{◌≡◌, ◌≢◌, ◌+◌, ◌<◌, OnOk, length, slice_index};
 ghost use Rattle.ch_custom.specs.declared.leg_pair.LegPair.{LegPair as AnyPair};
 ghost use Rattle.ch_custom.specs.LegPairs.{AreHeld, pairs_row};
 ghost use Rattle.ch_custom.specs.Exact.{IsPairShortened, AreAllHeld, AreBothLowered, IsSoundRow, IsShortenedOver};

@@ -1,6 +1,6 @@
 //! Rows of nodes that grow until they are a topology.
 ghost use Rattle.std.specs.Prelude.{◌≡◌, ℕ, ◌+◌, ◌^◌, ◌<◌, ◌≤◌, []};
-ghost use Rattle.std.specs.Prelude.{AllPairs, Contains, IfOk, OnOk, length, replicate, slice_index, vec_len};
+ghost use Rattle.std.specs.Prelude.{AllPairs, IfOk, OnOk, length, replicate, slice_index, vec_len};
 ghost use Rattle.ch_custom.specs.Pairs.{nodes_row, IsUnion, IsPutAt, IsMerged};
 
 use ch_graph::Rows;

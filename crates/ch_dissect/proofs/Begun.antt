@@ -1,40 +1,13 @@
 -- Orders that grow by a node that they lack, until they have all nodes.
-use Rattle.std.proofs.Common.{◌≡◌, ℕ, zero, suc, Bool, true, false, ◌+◌, ◌<◌, ◌≤◌, List, [], ◌∷◌, ◌++◌, length, get_or, set}
-use Rattle.std.proofs.Common.{length-set, take, refl, sym, ◌∙◌, ap, subst, arith, inl, inr, Contains}
-use Rattle.std.proofs.Common.{get_or-set_same, get_or-set_other}
+use Rattle.std.proofs.Common.{◌≡◌, ℕ, zero, Bool, false, ◌+◌, ◌<◌, ◌≤◌, List, [], ◌∷◌, ◌++◌, length, get_or}
+use Rattle.std.proofs.Common.{take, refl, sym, ◌∙◌, ap, subst, arith, inl, inr, Contains}
 use Rattle.std.specs.Prelude.{replicate}
 use Rattle.std.proofs.lemmas.Bool.{cases_eq}
 use Rattle.std.proofs.lemmas.List.{length-replicate, get_or-replicate, length-take-le, get_or-take, get_or_default, take_all, take_more}
-use Rattle.std.proofs.lemmas.List.Elements.{All-push, Contains-append_left, Contains-append_right, Contains-append_cases}
+use Rattle.std.proofs.lemmas.List.Elements.{Contains-append_left, Contains-append_right}
 use Rattle.ch_hierarchy.specs.Saved.{IsOrderOf}
-use Rattle.ch_hierarchy.proofs.theory.Ordered.{distinct_most, whole_least, every_number, pairs_push}
+use Rattle.ch_hierarchy.proofs.theory.Ordered.{distinct_most, whole_least, every_number}
 use Rattle.ch_dissect.specs.Orders.{IsBegun, IsPut}
-
--- a node that is not marked is put at the end
-pub begun_more : (n v : ℕ) (nodes : List ℕ) (taken : List Bool) → IsBegun n nodes taken → v < n → get_or taken v false ≡ false →
-    IsBegun n (nodes ++ v ∷ []) (set taken v true)
-begun_more n v nodes taken h lt free = record {
-  marks = length-set taken v true ∙ h.marks;
-  within = All-push (λ x. x < n) nodes v h.within lt;
-  distinct = pairs_push nodes v h.distinct (h.others v lt free);
-  marked = λ w less is. elim (cases_eq w v) [
-    | inl same ↦ Contains-append_right nodes (v ∷ []) w (zero, omega arith, sym same)
-    | inr ne ↦ Contains-append_left nodes (v ∷ []) w (h.marked w less (sym (get_or-set_other taken v w true false ne) ∙ is))
-  ];
-  others = λ w less is has. elim (cases_eq w v) [
-    | inl same ↦
-        (let here = get_or-set_same taken v true false (subst (λ k. v < k) (sym h.marks) lt) in
-        let there = subst (λ k. get_or (set taken v true) k false ≡ false) same is in cc)
-    | inr ne ↦ elim (Contains-append_cases nodes (v ∷ []) w has) [
-      | inl before ↦ h.others w less (sym (get_or-set_other taken v w true false ne) ∙ is) before
-      | inr last ↦ ne (only v w last)
-    ]
-  ];
-}
-  where
-    only : (x y : ℕ) → Contains (x ∷ []) y → y ≡ x
-    only x y (zero, lt, e) = sym e
-    only x y (suc k, lt, e) = absurd (omega arith)
 
 -- at the beginning there is no node
 pub begun_none : (n : ℕ) → IsBegun n [] (replicate n false)

@@ -1,5 +1,5 @@
 //! Nested dissection orders that the caller finds alone.
-ghost use Rattle.std.specs.Prelude.{◌≡◌, IfOk};
+ghost use Rattle.std.specs.Prelude.{IfOk};
 ghost use Rattle.ch_hierarchy.specs.Saved.{IsOrderOf};
 
 use crate::dissection::{Reduced, joined};

@@ -1,5 +1,5 @@
 //! Chains: nodes with at most two neighbours. They come first in the order, and cost no more than one edge each.
-ghost use Rattle.std.specs.Prelude.{◌≡◌, ◌+◌, ◌<◌, ◌≤◌, length, vec_len, IfOk, MatchOption, OnOk, ⊤};
+ghost use Rattle.std.specs.Prelude.{◌≡◌, ◌+◌, ◌<◌, ◌≤◌, vec_len, IfOk, MatchOption, ⊤};
 ghost use Rattle.ch_dissect.specs.Rows.{AreBelow};
 
 use crate::neighbours::Neighbours;

@@ -1,5 +1,5 @@
 //! What is left of a graph without its chains, with numbers of its own.
-ghost use Rattle.std.specs.Prelude.{◌≡◌, ◌<◌, ◌≤◌, length, vec_len, IfOk};
+ghost use Rattle.std.specs.Prelude.{◌≡◌, ◌<◌, length, vec_len, IfOk};
 ghost use Rattle.ch_dissect.specs.Rows.{AreBelow};
 
 use crate::chains::Chains;

@@ -1,5 +1,5 @@
 //! The cuts of parts: how one part is put in order, or cut into parts.
-ghost use Rattle.std.specs.Prelude.{◌≡◌, ◌+◌, ◌<◌, ◌≤◌, length, vec_len, IfOk, OnOk};
+ghost use Rattle.std.specs.Prelude.{◌≡◌, ◌+◌, ◌<◌, ◌≤◌, length, vec_len, OnOk};
 
 use crate::flow::Flow;
 use crate::neighbours::Neighbours;

@@ -1,5 +1,5 @@
 //! The nodes in the order that is made, and the parts of it that are not yet in order.
-ghost use Rattle.std.specs.Prelude.{◌≡◌, ℕ, ◌+◌, ◌<◌, ◌≤◌, length, vec_len, IfOk, OnOk, MatchOption, ⊤};
+ghost use Rattle.std.specs.Prelude.{◌≡◌, ℕ, ◌+◌, ◌<◌, ◌≤◌, length, vec_len, IfOk, OnOk};
 ghost use Rattle.ch_dissect.specs.Rows.{AreBelow};
 
 use crate::chains::numbers_below;

@@ -1,5 +1,5 @@
 //! Separators: nodes whose removal leaves no edge between two sides.
-ghost use Rattle.std.specs.Prelude.{◌≡◌, ◌+◌, ◌<◌, ◌≤◌, length, vec_len, IfOk, OnOk};
+ghost use Rattle.std.specs.Prelude.{◌≡◌, ◌+◌, ◌<◌, length, vec_len, OnOk};
 ghost use Rattle.ch_dissect.specs.Rows.{AreBelow};
 ghost use Rattle.ch_dissect.specs.Flows.{IsLabelled};
 

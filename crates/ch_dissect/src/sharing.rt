@@ -1,5 +1,5 @@
 //! Parts that workers share. Each worker cuts parts in a room of its own.
-ghost use Rattle.std.specs.Prelude.{◌≡◌, ◌^◌, ◌<◌, length, vec_len, All, IfOk, OnOk};
+ghost use Rattle.std.specs.Prelude.{◌≡◌, ◌<◌, IfOk};
 
 use crate::cutter::Cutter;
 use crate::neighbours::Neighbours;

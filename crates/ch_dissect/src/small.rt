@@ -1,5 +1,5 @@
 //! Orders of few nodes: a node with the fewest neighbours comes first, and its neighbours are joined (Markowitz 1957).
-ghost use Rattle.std.specs.Prelude.{◌≡◌, ◌<◌, length, vec_len, OnOk};
+ghost use Rattle.std.specs.Prelude.{◌≡◌, ◌<◌, vec_len, OnOk};
 
 use crate::part::Part;
 use std::alloc::{AllocError, Global};

@@ -1,5 +1,5 @@
 //! Walks through a part, breadth first.
-ghost use Rattle.std.specs.Prelude.{◌≡◌, ◌+◌, ◌<◌, ◌≤◌, length, vec_len, IfOk, OnOk};
+ghost use Rattle.std.specs.Prelude.{◌≡◌, ◌+◌, ◌<◌, length, vec_len, IfOk, OnOk};
 ghost use Rattle.ch_dissect.specs.Rows.{AreBelow};
 
 use crate::nodes::push_node;

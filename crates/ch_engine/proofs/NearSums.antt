@@ -1,20 +1,10 @@
 -- Near rows with sums in arrays, one after the other, and the pairs of a row.
-use Rattle.std.proofs.Common.{◌≡◌, ℕ, ◌+◌, ◌<◌, ◌≤◌, List, [], ◌∷◌, ◌++◌, length, get_or, set, Option, Some, None}
-use Rattle.std.proofs.Common.{inl, inr, refl, sym, ◌∙◌, subst, arith}
-use Rattle.std.specs.Prelude.{MatchOption, ⊤}
-use Rattle.std.proofs.lemmas.Bool.{cases_lt}
-use Rattle.std.proofs.lemmas.List.{get_or_append_left, get_or_push}
-use Rattle.std.proofs.lemmas.List.Elements.{Contains-get_or}
-use Rattle.ch_hierarchy.specs.Hierarchy.{nodes_of}
-use Rattle.ch_hierarchy.specs.Direction.{facing}
-use Rattle.ch_rows.specs.Kept.{IsRowOf}
-use Rattle.ch_rows.specs.Near.{IsDistanceTo}
-use Rattle.ch_rows.specs.Searched.{Asked}
+use Rattle.std.proofs.Common.{◌≡◌, ℕ, ◌+◌, ◌<◌, ◌≤◌, List, length, get_or, set}
+use Rattle.std.proofs.Common.{refl, sym, ◌∙◌, subst, arith}
 use Rattle.ch_engine.specs.Held.{Held}
 use Rattle.ch_engine.specs.NearRows.{IsKeptRow, StandsAt, begin_of}
-use Rattle.ch_engine.specs.NearSums.{AreNearSumsAt, AreSummedRowsAt, IsNearPair, IsNearSum, IsNearSumEnd, IsRowSumsEnd}
-use Rattle.ch_engine.specs.NearSums.{IsRowsEnd, IsSummedRowAt, KeepsNodes, pair_at}
-use Rattle.ch_engine.specs.Refusals.{AreNodes}
+use Rattle.ch_engine.specs.NearSums.{AreNearSumsAt, AreSummedRowsAt, IsNearSum, IsNearSumEnd, IsRowSumsEnd}
+use Rattle.ch_engine.specs.NearSums.{IsRowsEnd, IsSummedRowAt, pair_at}
 use Rattle.ch_engine.specs.declared.written.RowsEnd.{RowsEnd}
 use Rattle.ch_engine.proofs.NearRows.{Agree, ends_more}
 
@@ -46,33 +36,6 @@ module _ (held : Held) (sources ends weights places sums weights' places' sums' 
       ends_more Is ends i begin (begin + length row) here inside
       (λ k less. summed_row_stays (get_or sources k 0) (begin_of ends k) (get_or ends k 0) (are k less) (low k less) agree still long)
       (row, kept, refl, omega (arith, long, fits), stands, summed)
-
--- each pair of a row is a place that is a node, with its distance
-pub pair_near : (held : Held) (s : ℕ) (row : List (ℕ × ℕ)) → IsKeptRow held s row → KeepsNodes held → (j : ℕ) → j < length row →
-    IsNearPair held s (pair_at row j)
-pair_near held s row kept nodes j low = at held.near kept nodes
-  where
-    at : (near : Option Asked) → MatchOption near ⊤ (λ asked. IsRowOf held.hierarchy asked s row) →
-        MatchOption near ⊥ (λ asked. AreNodes (nodes_of held.hierarchy) asked.targets) →
-        MatchOption near ⊥ (λ asked. IsDistanceTo (facing asked.direction held.hierarchy) asked.limit asked.targets s (pair_at row j)
-        × (get_or asked.targets (pair_at row j).1 0 < nodes_of held.hierarchy))
-    at None row none = absurd none
-    at (Some asked) first nodes =
-        let is = first.sound (pair_at row j) (Contains-get_or row j (0, 0) low) in (is, nodes (pair_at row j).1 0 is.0)
-
--- one more sum of a row
-pub near_sums_more : (held : Held) (s : ℕ) (row : List (ℕ × ℕ)) (sums : List ℕ) (j sum : ℕ) → length sums ≡ j →
-    ((i : ℕ) → i < j → IsNearSum held s (pair_at row i).1 (pair_at row i).0 (get_or sums i 0)) →
-    IsNearSum held s (pair_at row j).1 (pair_at row j).0 sum → (i : ℕ) → i < j + 1 →
-    IsNearSum held s (pair_at row i).1 (pair_at row i).0 (get_or (sums ++ sum ∷ []) i 0)
-near_sums_more held s row sums j sum long are here i low =
-    let Is : ℕ → ℕ → Type 0 = λ n x. IsNearSum held s (pair_at row n).1 (pair_at row n).0 x in
-    elim (cases_lt i j) [
-      | inl less ↦ subst (Is i) (sym (get_or_append_left sums (sum ∷ []) 0 i (omega (arith, less, long)))) (are i less)
-      | inr past ↦ (
-          let same : j ≡ i = omega (arith, low, past) in
-          subst (λ (n : ℕ). Is n (get_or (sums ++ sum ∷ []) n 0)) same (subst (Is j) (sym (get_or_push sums sum 0 j long)) here))
-    ]
 
 -- a sum that was not found is where its row ends
 pub row_ends_at : (held : Held) (s : ℕ) (row : List (ℕ × ℕ)) (j : ℕ) (end : RowsEnd) → j < length row →

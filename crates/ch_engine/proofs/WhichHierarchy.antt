@@ -1,33 +1,13 @@
 -- Which hierarchy an engine opens with: a saved one, or one that is built.
-use Rattle.std.proofs.Common.{◌≡◌, ◌≢◌, ℕ, List, [], ◌∷◌, length, refl, ap, arith}
+use Rattle.std.proofs.Common.{◌≢◌, ℕ, List, [], ◌∷◌, length, refl, ap}
 use Rattle.ch_graph.specs.Graph.{Network}
 use Rattle.ch_graph.specs.Saved.{OrderAndLegs}
 use Rattle.ch_hierarchy.specs.Hierarchy.{LevelsAndLegs}
 use Rattle.ch_hierarchy.specs.Saved.{NamesHierarchy}
-use Rattle.ch_contract.specs.declared.measure.OrderBy.TheVariants.{Depth}
-use Rattle.ch_contract.specs.Built.{IsHierarchyBy}
 use Rattle.ch_read.specs.Names.{NamesGraph, NamesSaved}
-use Rattle.ch_order.specs.Quick.{IsHierarchyAfter}
-use Rattle.ch_engine.specs.Opened.{IsSavedOrBuilt, IsSavedOrQuick}
+use Rattle.ch_engine.specs.Opened.{IsSavedOrBuilt}
 use Rattle.ch_engine.specs.Refusals.{IsOpenError, IsSavedError}
 use Rattle.ch_engine.specs.declared.fault.OpenError.{OpenError}
-
--- without bytes it is the hierarchy by depth
-pub built : (g : Network) (bytes : List ℕ) (H : LevelsAndLegs) → length bytes ≡ 0 → IsHierarchyBy Depth g 5 H → IsSavedOrBuilt g bytes H
-built g [] H none by = by
-built g (byte ∷ bytes) H none by = absurd (omega (arith, none))
-
--- or one in some order
-pub built_quickly : (g : Network) (bytes : List ℕ) (H : LevelsAndLegs) → length bytes ≡ 0 → IsHierarchyAfter g 5 [] H →
-    IsSavedOrQuick g bytes H
-built_quickly g [] H none by = by
-built_quickly g (byte ∷ bytes) H none by = absurd (omega (arith, none))
-
--- with bytes there is no choice of an order
-pub saved_either : (g : Network) (bytes : List ℕ) (H : LevelsAndLegs) → length bytes ≢ 0 → IsSavedOrBuilt g bytes H →
-    IsSavedOrQuick g bytes H
-saved_either g [] H some named = absurd (some refl)
-saved_either g (byte ∷ bytes) H some named = named
 
 -- with bytes it is the hierarchy that they name
 pub saved_named : (g : Network) (bytes : List ℕ) (s : OrderAndLegs) (H : LevelsAndLegs) → length bytes ≢ 0 → NamesSaved bytes g.nodes s →

@@ -3,7 +3,7 @@ ghost use Rattle.std.specs.Prelude.{◌≡◌, ◌≢◌, ◌⊎◌, ◌<◌, �
 ghost use Rattle.ch_graph.specs.declared.limits.TheConstants.{MOST_ARCS};
 ghost use Rattle.ch_graph.specs.Rows.{AreRowsOf};
 ghost use Rattle.ch_hierarchy.specs.Hierarchy.{nodes_of};
-ghost use Rattle.ch_hierarchy.specs.Rows.{row as the_row_of, IsRow};
+ghost use Rattle.ch_hierarchy.specs.Rows.{IsRow};
 ghost use Rattle.ch_hierarchy.specs.Side.{rows_of};
 ghost use Rattle.ch_engine.specs.Lines.{AreLinesOn, IsBetter, IsLineWord, IsSeen, IsWordAt, arc_on, ended_lines, far_end as the_far_end, near_end as the_near_end, no_line, node_at};
 

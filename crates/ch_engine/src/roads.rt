@@ -1,10 +1,7 @@
 //! The arcs of a graph without their weights, with a topology of them.
-ghost use Rattle.std.specs.Prelude.{◌≡◌, ◌*◌, ◌≤◌, [], length, map, take, IfErr, IfOk, Ok};
+ghost use Rattle.std.specs.Prelude.{◌≡◌, ◌*◌, length, map, IfErr, IfOk, Ok};
 ghost use Rattle.ch_graph.specs.declared.arc.InArc.{InArc as AnyArc};
-ghost use Rattle.ch_graph.specs.Graph.{IsWithinLimits};
-ghost use Rattle.ch_custom.specs.declared.topology.TheConstants.{TRIANGLES_A_NODE as triangles_a_node};
 ghost use Rattle.ch_custom.specs.Customizing.{IsTopology};
-ghost use Rattle.ch_custom.specs.Triangles.{triangles_over};
 ghost use Rattle.ch_engine.specs.Topologies.{HasEndsOf, IsInOrder, IsNamedOrder, IsOpenedWith, IsOrderError, IsWeightsError};
 
 use crate::arrays::graph_of;

@@ -1,7 +1,7 @@
 //! Topologies: what a network needs for new weights on the same arcs.
-ghost use Rattle.std.specs.Prelude.{◌≡◌, length, IfErr, IfOk, None};
+ghost use Rattle.std.specs.Prelude.{◌≡◌, IfErr, IfOk};
 ghost use Rattle.ch_engine.specs.Held.{KeepsNothing};
-ghost use Rattle.ch_engine.specs.Topologies.{HasEndsOf, IsArraysTopologyError, IsInOrder, IsOfEnds, IsOpenedWith, IsTopologyError, IsTopologyOfArrays, IsTopologyOpened, IsUnweighedError, IsWeightsError};
+ghost use Rattle.ch_engine.specs.Topologies.{IsArraysTopologyError, IsOfEnds, IsOpenedWith, IsTopologyError, IsTopologyOfArrays, IsTopologyOpened, IsUnweighedError, IsWeightsError};
 
 use crate::arrays::graph_of;
 use crate::engine::Engine;

@@ -23,7 +23,7 @@ use Rattle.ch_contract.proofs.theory.EnoughKept.{hierarchies_with_enough_kept}
 use Rattle.ch_contract.proofs.theory.GivenNodes.{all_others, no_other}
 use Rattle.ch_contract.proofs.theory.OneInTurn.{not_before, one_map}
 use Rattle.ch_contract.proofs.theory.OrderSteps.{then_before, then_legs}
-use Rattle.ch_order.specs.Progress.{Progress, IsContraction, IsContractionBy, IsNext, AreAll}
+use Rattle.ch_order.specs.Progress.{Progress, IsContraction, IsContractionBy, AreAll}
 use Rattle.ch_order.specs.Priorities.{IsRanked}
 use Rattle.ch_contract.specs.Remaining.{legs_of}
 use Rattle.ch_order.specs.declared.construction.Construction.{Construction}
@@ -134,10 +134,6 @@ rekeyed_ranked by n h nodes p q have r = record {
     | inr away ↦ ap is_some (r.keys.kept x away)
   ];
 }
-
--- the first node of the queue has a key
-pub next_key : (keys : List (Option ℤ)) (v : ℕ) → IsNext keys v → HasKey keys v
-next_key keys v n = (n.priority, n.has)
 
 -- all nodes are put into the queue before the first one is contracted
 pub any_at_start : (g : Network) (h : ℕ) (nodes : List ℕ) (p q : Progress) → 1 ≤ h → IsOrderOf g.nodes nodes →

@@ -2,13 +2,13 @@
 use Rattle.std.proofs.Common.{true, ◌≡◌, ℕ, ◌+◌, ◌<◌, ◌≤◌, List, [], ◌∷◌, ◌++◌, length, get_or, take, Contains, refl, sym, ◌∙◌, ap, subst}
 use Rattle.std.proofs.Common.{arith, inl, inr, length-set, get_or-set_other}
 use Rattle.std.specs.Prelude.{◌⊎◌, ◌≢◌, ◌==◌, AllPairs, map, replicate, slice_index}
-use Rattle.std.proofs.lemmas.Bool.{cases_eq, cases_lt, eqb-true}
+use Rattle.std.proofs.lemmas.Bool.{cases_eq, eqb-true}
 use Rattle.std.proofs.lemmas.Grind.{get_or_default_zero}
-use Rattle.std.proofs.lemmas.List.{take_all, get_or-replicate, length-replicate, get_or_past, map-append, replicate-append-replicate}
+use Rattle.std.proofs.lemmas.List.{map-append, replicate-append-replicate}
 use Rattle.ch_graph.specs.declared.arc.InArc.{InArc}
 use Rattle.ch_graph.specs.Graph.{Network, IsWithinLimits}
 use Rattle.ch_graph.proofs.Lists.{contains_none, contains_cons, contains_head, contains_tail}
-use Rattle.ch_hierarchy.specs.Saved.{IsOrderOf, AreLevelsOf}
+use Rattle.ch_hierarchy.specs.Saved.{IsOrderOf}
 use Rattle.ch_contract.proofs.theory.OneInTurn.{taken_at}
 use Rattle.ch_custom.specs.Customizing.{HasParent, IsPair, IsTopology}
 use Rattle.ch_custom.specs.Topologies.{AreHigher}
@@ -326,36 +326,6 @@ pub replicate_more : {V : Type 0} (items : V → List ℕ) (rows new : List V) (
 replicate_more items rows new n r all is edited = ap (map items) edited ∙ map-append items rows (r ∷ []) ∙ (λ i. all i ++ is i ∷ [])
     ∙ replicate-append-replicate n 1 []
 
--- rows without nodes
-pub empty_row : (rows : List (List ℕ)) (n : ℕ) → rows ≡ replicate n [] → (v : ℕ) → nodes_row rows v ≡ []
-empty_row rows n same v = ap (λ z. nodes_row z v) same ∙ (elim (cases_lt v n) [
-  | inl lt ↦ get_or-replicate n v nothing [] lt
-  | inr past ↦ let size = length-replicate n nothing in get_or_past (replicate n nothing) v [] (omega arith)
-])
-  where
-    nothing : List ℕ
-    nothing = []
-
--- the rows before the first arc
-pub rows_none : (g : Network) (order levels : List ℕ) (rows : List (List ℕ)) → IsWithinLimits g → IsOrderOf g.nodes order →
-    AreLevelsOf order levels → rows ≡ replicate g.nodes [] → AreRowsFor g order levels [] rows
-rows_none g order levels rows limits is leveled same =
-    let size : length rows ≡ g.nodes = ap length same ∙ length-replicate g.nodes [] in
-    let count = limits.size.0 in
-    record {
-      size = size;
-      sound = record {
-        count = omega arith;
-        nodes = subst (λ n. IsOrderOf n order) (sym size) is;
-        ordered = λ v i j d lt below. absurd
-            (let e = empty_row rows g.nodes same v in let l : length (nodes_row rows v) ≡ 0 = ap length e in omega arith);
-        higher = λ i w lt c. absurd
-            (contains_none w (subst (λ (z : List ℕ). Contains z w) (empty_row rows g.nodes same (slice_index order i)) c));
-      };
-      by_level = leveled;
-      with_arcs = λ a i j c. absurd (contains_none a c);
-    }
-
 -- the next arc of a graph
 pub arc_next : (g : Network) (order levels : List ℕ) (arcs : List InArc) (k : ℕ) (d : InArc) (old new : List (List ℕ)) (lo hi : ℕ) →
     IsWithinLimits g → arcs ≡ g.arcs → k < length arcs → AreRowsFor g order levels (take k g.arcs) old →
@@ -373,14 +343,6 @@ arc_next g order levels arcs k d old new lo hi limits same lt a rising ends m =
     ] in
     subst (λ z. AreRowsFor g order levels z new) (sym (take_more g.arcs k d inside))
     (arc_put g order levels (take k g.arcs) old a (get_or g.arcs k d) lo hi new both.0 both.1 rising e m)
-
--- all arcs are put in
-pub arcs_all : (g : Network) (order levels : List ℕ) (k : ℕ) (rows : List (List ℕ)) → length g.arcs ≤ k →
-    AreRowsFor g order levels (take k g.arcs) rows → AreHandedOn g order levels 0 rows
-arcs_all g order levels k rows past a = record {
-  rows_for = subst (λ z. AreRowsFor g order levels z rows) (take_all k g.arcs past) a;
-  parents = λ i lt. absurd (omega arith);
-}
 
 -- the nodes of a row are nodes
 pub row_within : (g : Network) (order levels : List ℕ) (arcs : List InArc) (rows : List (List ℕ)) → AreRowsFor g order levels arcs rows →

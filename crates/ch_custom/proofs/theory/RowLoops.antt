@@ -1,10 +1,9 @@
 -- Loops over the rows of arrays.
 use Rattle.std.proofs.Common.{◌≡◌, ℕ, suc, ◌+◌, ◌<◌, ◌≤◌, Bool, true, false, cond, List, [], ◌∷◌, ◌++◌, length, get_or, set, take, refl}
-use Rattle.std.proofs.Common.{sym, ◌∙◌, ap, arith, inl, inr, length-set, get_or-set_same, get_or-set_other}
+use Rattle.std.proofs.Common.{sym, ◌∙◌, ap, arith, get_or-set_same}
 use Rattle.std.specs.Prelude.{map, filter}
 use Rattle.std.specs.List.{insert}
-use Rattle.std.proofs.lemmas.Bool.{cases_eq}
-use Rattle.std.proofs.lemmas.List.{get_or-map, length-map, ext_get_or, set-set, set-get_or}
+use Rattle.std.proofs.lemmas.List.{get_or-map, length-map, ext_get_or, set-set}
 use Rattle.std.proofs.lemmas.List.Edits.{insert_end}
 use Rattle.std.proofs.lemmas.List.Elements.{filter-append}
 use Rattle.std.proofs.Math.Seq.{take-suc}
@@ -58,11 +57,6 @@ module _ (old now new : List (List Leg)) (node place : ℕ) (row : List Leg) (d 
       none [] = refl
       none (x ∷ xs) = ap (λ z. x ∷ z) (none xs)
 
--- the list is empty before the first place
-pub pushed_none : (old : List (List Leg)) (node : ℕ) (row : List Leg) → get_or old node [] ≡ [] →
-    old ≡ set old node (filter is_live (take 0 row))
-pushed_none old node row empty = sym (ap (set old node) (sym empty) ∙ set-get_or old node [])
-
 -- all lists are made
 pub all_made : (rows lists : List (List Leg)) → length lists ≡ length rows →
     ((k : ℕ) → k < length rows → get_or lists k [] ≡ filter is_live (get_or rows k [])) → lists ≡ map (λ r. filter is_live r) rows
@@ -76,17 +70,3 @@ pub record AreMadeTo (rows : List (List Leg)) (node : ℕ) (lists : List (List L
   pub size : length lists ≡ length rows
   pub made : (k : ℕ) → k < node → k < length rows → get_or lists k [] ≡ filter is_live (get_or rows k [])
   pub empty : (k : ℕ) → node ≤ k → get_or lists k [] ≡ []
-
-pub made_more : (rows : List (List Leg)) (node : ℕ) (lists new : List (List Leg)) → AreMadeTo rows node lists → node < length rows →
-    new ≡ set lists node (filter is_live (get_or rows node [])) → AreMadeTo rows (node + 1) new
-made_more rows node lists new a lt edited = record {
-  size = ap length edited ∙ length-set lists node _ ∙ a.size;
-  made = λ k first inside. elim (cases_eq k node) [
-    | inl same ↦
-        let size = a.size in
-        ap (λ z. get_or new z []) same ∙ ap (λ z. get_or z node []) edited ∙ get_or-set_same lists node _ [] (omega arith)
-        ∙ ap (λ z. filter is_live (get_or rows z [])) (sym same)
-    | inr ne ↦ ap (λ z. get_or z k []) edited ∙ get_or-set_other lists node k _ [] ne ∙ a.made k (omega arith) inside
-  ];
-  empty = λ k past. ap (λ z. get_or z k []) edited ∙ get_or-set_other lists node k _ [] (λ e. omega arith) ∙ a.empty k (omega arith);
-}

@@ -2,7 +2,7 @@
 use Rattle.std.proofs.Common.{◌≡◌, ℕ, zero, suc, ◌+◌, ◌-◌, ◌<◌, ◌≤◌}
 use Rattle.std.proofs.Common.{List, [], ◌∷◌, length, get_or, take, Contains, refl, sym}
 use Rattle.std.proofs.Common.{◌∙◌, ap, subst, arith, inl, inr}
-use Rattle.std.specs.Prelude.{◌⊎◌, ◌≢◌, AllPairs, slice_index, replicate}
+use Rattle.std.specs.Prelude.{◌⊎◌, ◌≢◌, AllPairs, slice_index}
 use Rattle.std.proofs.lemmas.Bool.{cases_eq}
 use Rattle.std.proofs.lemmas.Bool.Decides.{Decides-eqb}
 use Rattle.std.proofs.lemmas.Cmp.{nat_eq_equiv}
@@ -16,7 +16,7 @@ use Rattle.ch_graph.proofs.Lists.{contains_none, contains_cons}
 use Rattle.ch_custom.specs.Customizing.{IsTopology}
 use Rattle.ch_custom.specs.Pairs.{nodes_row, IsMerged, AreRowsFor, AreHandedOn, IsRising}
 use Rattle.ch_custom.specs.Triangles.{pairs_among, triangles_over, AreNeeded, AllHaveMore}
-use Rattle.ch_custom.proofs.theory.Growing.{other_row, level_at, leads_up, order_of, empty_row, rising_of}
+use Rattle.ch_custom.proofs.theory.Growing.{other_row, level_at, leads_up, order_of, rising_of}
 use Rattle.ch_custom.proofs.theory.Growing.{parent_place, parent_within, row_stays}
 
 -- a larger row has no fewer pairs
@@ -29,12 +29,6 @@ no_more xs ys ordered within =
     length-le_from_is_member nat_eq_equiv xs ys
     (IsDistinct-from_AllPairs Decides-eqb xs (λ i j d lt below e. let less = ordered i j d lt below in omega arith))
     (λ q is. (is_member-Decides Decides-eqb ys q).1 (within q ((is_member-Decides Decides-eqb xs q).0 is)))
-
--- rows without nodes have no pair
-pub needed_none : (g : Network) (order : List ℕ) (rows : List (List ℕ)) → rows ≡ replicate g.nodes [] → AreNeeded g order rows
-needed_none g order rows same other top i j first last c =
-    absurd (contains_none (slice_index order j)
-    (subst (λ (z : List ℕ). Contains z (slice_index order j)) (empty_row rows g.nodes same (slice_index order i)) c))
 
 module _ (g : Network) (order levels : List ℕ) (arcs : List InArc) (old new : List (List ℕ)) (a : AreRowsFor g order levels arcs old)
     (p : ℕ) (others : List ℕ) (without : ℕ) (m : IsMerged p others without old new) (low : p < g.nodes)

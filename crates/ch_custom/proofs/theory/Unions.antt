@@ -28,17 +28,6 @@ has_number xs k lt = (k, lt, number_at xs k (slice_index xs k) lt)
 pub place_of : (xs : List ℕ) (y : ℕ) → Contains xs y → (k : ℕ) × (k < length xs) × (slice_index xs k ≡ y)
 place_of xs y c = (c.0, c.1, sym (number_at xs c.0 y c.1) ∙ c.2)
 
--- before the first
-pub union_none : (old others : List ℕ) (without : ℕ) → AllPairs ◌<◌ old → IsUnionTo old others without 0 0 old
-union_none old others without ordered = record {
-  within = omega arith;
-  ordered = ordered;
-  passed = λ k j lt. absurd (omega arith);
-  each = λ y c. inl c;
-  kept = λ y c. c;
-  added = λ k lt. absurd (omega arith);
-}
-
 -- after the last
 pub union_all : (old others : List ℕ) (without place next : ℕ) (new : List ℕ) → IsUnionTo old others without place next new →
     length others ≤ place → IsUnion old others without new

@@ -1,5 +1,5 @@
 //! Estimates of the priorities of nodes whose legs have changed since they were judged.
-ghost use Rattle.std.specs.Prelude.{◌≤◌, ◌^◌, IfOk};
+ghost use Rattle.std.specs.Prelude.{◌≤◌, ◌^◌};
 
 use ch_contract::Measure;
 use std::alloc::{AllocError, Global};

@@ -12,7 +12,7 @@ ghost use Rattle.ch_read.specs.Names.{NamesOrder, NamesSaved};
 ghost use Rattle.ch_read.specs.declared.form.Form.TheVariants as Form;
 ghost use Rattle.ch_graph.specs.Graph.{IsWithinLimits};
 ghost use Rattle.ch_hierarchy.specs.Saved.{NamesKept};
-ghost use Rattle.ch_run.specs.Customized.{IsDissected, IsUncustomizable, NamesCustomized};
+ghost use Rattle.ch_run.specs.Customized.{IsUncustomizable, NamesCustomized};
 ghost use Rattle.ch_run.specs.Story.{EndsAt, IsOrderRefusedOn, IsRefused, IsSavedRefusedOn, Loads, NamesLike};
 ghost use Rattle.ch_run.specs.Source.{IsServing, ReadsSaved, source_reading};
 
