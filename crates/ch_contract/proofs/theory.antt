@@ -15,7 +15,7 @@ pub mod UpAndDown
 pub mod OneInTurn
 pub mod Levelled
 pub mod Enough
-pub mod ReferenceSearch
+pub mod WitnessSearch
 pub mod OrderSteps
 pub mod GivenNodes
 pub mod RowSteps

@@ -17,14 +17,10 @@ pub mod Like
 pub mod Remaining
 pub mod ShortcutLists
 pub mod Candidates
-pub mod Reference
-pub mod Examples
-pub mod Laws
 pub mod OneOrder
 pub mod Measures
 pub mod Keeping
 pub mod LikeLaws
-pub mod LikeReference
 pub mod HeldCosts
 pub mod KnownCosts
 pub mod LegLists

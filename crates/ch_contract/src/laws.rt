@@ -1,7 +1,5 @@
-//! Laws, and worked examples of the definitions. Each is the contract of a function that does nothing.
+//! Laws of the definitions. Each is the contract of a function that does nothing.
 
 pub mod keeping;
 pub mod like;
 pub mod one_order;
-pub mod reference;
-pub mod worked;

@@ -9,8 +9,8 @@ use Rattle.ch_contract.specs.Legs.{Legs, AreLegsWithin}
 use Rattle.ch_contract.specs.Contraction.{IsPairBefore, AreShortcuts, count_touching}
 use Rattle.ch_contract.specs.Measures.{IsMeasure, IsMeasureUpTo}
 use Rattle.ch_contract.specs.ShortcutLists.{AreShortcutsAmong, AreShortcutsBefore, AreUpTo}
-use Rattle.ch_contract.specs.Laws.{LeadsWithin}
-use Rattle.ch_contract.proofs.theory.ReferenceSearch.{some_of}
+use Rattle.ch_contract.specs.Legs.{LeadsWithin}
+use Rattle.ch_contract.proofs.theory.WitnessSearch.{some_of}
 use Rattle.ch_contract.proofs.theory.ShortcutsListed.{shortcuts_among}
 
 -- legs within the limits lead to nodes

@@ -21,7 +21,7 @@ use Rattle.ch_contract.specs.KnownCosts.{IsLegLight, AreTouched, IsOneMoreOf, st
 use Rattle.ch_contract.specs.KnownCosts.{IsFront, AreLegsUpTo}
 use Rattle.ch_contract.proofs.theory.RowLegs.{row_has, row_member, leg_at}
 use Rattle.ch_hierarchy.proofs.theory.NoLeg.{no_leg}
-use Rattle.ch_contract.proofs.theory.ReferenceSearch.{some_of}
+use Rattle.ch_contract.proofs.theory.WitnessSearch.{some_of}
 use Rattle.ch_graph.proofs.CostOrder.{IsAtMost_refl, IsAtMost_trans, IsAtMost-no_cost}
 use Rattle.ch_graph.proofs.CostSums.{IsAtMost-cost_sum}
 

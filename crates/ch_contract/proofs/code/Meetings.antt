@@ -17,7 +17,7 @@ use Rattle.ch_contract.specs.HeldCosts.{never}
 use Rattle.ch_contract.specs.KnownCosts.{Known, known_at, IsReached, AreLeastCosts}
 use Rattle.ch_contract.specs.Meeting.{IsMet}
 use Rattle.ch_contract.proofs.theory.RowLegs.{row_has, row_member, leg_at}
-use Rattle.ch_contract.proofs.theory.ReferenceSearch.{some_of}
+use Rattle.ch_contract.proofs.theory.WitnessSearch.{some_of}
 use Rattle.ch_graph.proofs.CostOrder.{IsAtMost_refl, IsAtMost_trans, IsAtMost-no_cost}
 use Rattle.ch_graph.proofs.CostSums.{IsAtMost-cost_sum, cost_sum_comm, cost_sum_assoc}
 

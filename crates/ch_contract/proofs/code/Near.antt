@@ -23,7 +23,7 @@ use Rattle.ch_contract.specs.Near.{IsNear, AreNear, seen_from}
 use Rattle.ch_contract.proofs.code.Counted.{fewer}
 use Rattle.ch_contract.proofs.code.ShortcutLemmas.{IsBoundary, boundary_next}
 use Rattle.ch_contract.proofs.theory.Listing.{one_more}
-use Rattle.ch_contract.proofs.theory.ReferenceSearch.{some_of}
+use Rattle.ch_contract.proofs.theory.WitnessSearch.{some_of}
 use Rattle.ch_contract.proofs.theory.RowLegs.{leg_at, row_member}
 
 module _ (n : ℕ) (L : Legs) (v : ℕ) where

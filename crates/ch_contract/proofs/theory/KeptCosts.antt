@@ -12,7 +12,7 @@ use Rattle.ch_graph.proofs.CostSums.{cost_sum_comm, IsAtMost-cost_sum_self}
 use Rattle.ch_graph.proofs.WalkCosts.{cost_of-cons, IsWalkCost-no_cost, IsWalkCost-cost_sum, IsLeast-again}
 use Rattle.ch_graph.proofs.SimpleWalks.{IsLeast-arcs, IsLeast-weight}
 use Rattle.ch_contract.specs.Legs.{Legs, SameLegs, IsChain, chain_cost, opening}
-use Rattle.ch_contract.proofs.theory.ReferenceSearch.{some_of}
+use Rattle.ch_contract.proofs.theory.WitnessSearch.{some_of}
 use Rattle.ch_contract.proofs.theory.Chains.{HasChain, IsLight, no_chain, leg_then_chain, chain_at_most, chain_cost-cons}
 use Rattle.ch_contract.proofs.theory.OpeningLegs.{opening_covers}
 use Rattle.ch_contract.proofs.theory.OneContraction.{chain_stays}

@@ -15,8 +15,8 @@ use Rattle.ch_contract.specs.declared.shortcut.Shortcut.{Shortcut}
 use Rattle.ch_contract.specs.Legs.{Label, Legs, IsChain, chain_cost, AreLegsWithin}
 use Rattle.ch_contract.specs.Contraction.{shortcut_label, leg_after_shortcuts}
 use Rattle.ch_contract.specs.Enough.{IsPairThrough, ContractsWithEnough}
-use Rattle.ch_contract.specs.Laws.{LeadsWithin}
-use Rattle.ch_contract.proofs.theory.ReferenceSearch.{witness_or_none, some_of}
+use Rattle.ch_contract.specs.Legs.{LeadsWithin}
+use Rattle.ch_contract.proofs.theory.WitnessSearch.{witness_or_none, some_of}
 use Rattle.ch_graph.proofs.Numbers.{not_eqb, eqb-refl}
 use Rattle.ch_graph.proofs.Lists.{contains_head, contains_tail}
 use Rattle.ch_contract.proofs.theory.Contracting.{IsOverridden, override_cases}

@@ -18,7 +18,7 @@ use Rattle.ch_contract.specs.declared.measure.OrderBy.{OrderBy}
 use Rattle.ch_contract.specs.declared.measure.OrderBy.TheVariants.{Difference, Depth}
 use Rattle.ch_contract.specs.Legs.{Legs, AreLegsWithin, opening, turned_legs}
 use Rattle.ch_contract.specs.LegRows.{AreLegsFrom}
-use Rattle.ch_contract.specs.Laws.{LeadsWithin}
+use Rattle.ch_contract.specs.Legs.{LeadsWithin}
 use Rattle.ch_contract.specs.Contraction.{Contracts, count_touching, key_by, legs_after_contraction}
 use Rattle.ch_contract.specs.Order.{depth_after, IsContractedBefore, AreContracted}
 use Rattle.ch_contract.specs.Built.{IsHierarchyOf, IsHierarchyInTurn}
@@ -26,7 +26,7 @@ use Rattle.ch_contract.specs.Like.{IsPriorityFrom, IsHierarchyFrom, TakesFirstFr
 use Rattle.ch_contract.specs.LikeLaws.{GraphsHaveHierarchiesLike}
 use Rattle.ch_contract.specs.OneOrder.{GraphsHaveHierarchies}
 use Rattle.ch_contract.specs.Begun.{AreDifferentNodes, IsBegun}
-use Rattle.ch_contract.proofs.theory.ReferenceSearch.{some_of}
+use Rattle.ch_contract.proofs.theory.WitnessSearch.{some_of}
 use Rattle.ch_contract.proofs.theory.Contracting.{pairs_by_needed}
 use Rattle.ch_contract.proofs.theory.GivenNodes.{order_nodes}
 use Rattle.ch_contract.proofs.theory.GivenOrders.{in_turn_from}

@@ -13,9 +13,9 @@ use Rattle.ch_graph.proofs.Lists.{contains_none, pairs_append}
 use Rattle.ch_contract.specs.declared.shortcut.Shortcut.{Shortcut}
 use Rattle.ch_contract.specs.Legs.{Label, Legs, HasWitness, AreLegsWithin}
 use Rattle.ch_contract.specs.Contraction.{AreShortcuts, IsPairBefore}
-use Rattle.ch_contract.specs.Laws.{LeadsWithin}
+use Rattle.ch_contract.specs.Legs.{LeadsWithin}
 use Rattle.ch_contract.specs.ShortcutLists.{IsShortcutAmong, AreShortcutsAmong}
-use Rattle.ch_contract.proofs.theory.ReferenceSearch.{witness_or_none}
+use Rattle.ch_contract.proofs.theory.WitnessSearch.{witness_or_none}
 use Rattle.ch_contract.proofs.theory.Contracting.{pair_of_shortcut}
 use Rattle.ch_contract.proofs.theory.Listing.{one_more}
 

@@ -14,7 +14,7 @@ use Rattle.ch_hierarchy.specs.declared.leg.Leg.{Leg}
 use Rattle.ch_contract.specs.Legs.{Label, Legs, IsChain, chain_cost}
 use Rattle.ch_hierarchy.specs.Hierarchy.{LevelsAndLegs}
 use Rattle.ch_hierarchy.specs.Paths.{IsUpwardPath, path_cost, IsUp, IsDown, IsMeeting}
-use Rattle.ch_contract.proofs.theory.ReferenceSearch.{some_of}
+use Rattle.ch_contract.proofs.theory.WitnessSearch.{some_of}
 use Rattle.ch_contract.proofs.theory.RowLegs.{leg_at}
 use Rattle.ch_hierarchy.proofs.theory.LegPaths.{rises_along, falls_along}
 use Rattle.ch_hierarchy.proofs.theory.MeetingPaths.{HasMeetingPaths, paths_of_none, up_first, down_last}

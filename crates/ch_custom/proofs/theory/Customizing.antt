@@ -17,7 +17,7 @@ use Rattle.ch_hierarchy.proofs.theory.Ordered.{same_ends}
 use Rattle.ch_contract.specs.declared.shortcut.Shortcut.{Shortcut}
 use Rattle.ch_contract.specs.Legs.{Label, Legs, IsWitness, HasWitness, AreLegsWithin, opening}
 use Rattle.ch_contract.specs.Contraction.{IsShortcut, AreShortcuts, Contracts, shortcut_label, leg_after_shortcuts, legs_after_contraction}
-use Rattle.ch_contract.specs.Laws.{LeadsWithin}
+use Rattle.ch_contract.specs.Legs.{LeadsWithin}
 use Rattle.ch_contract.specs.Order.{AreTaken}
 use Rattle.ch_custom.specs.Customizing.{is_cheaper, leg_over, legs_lowered, Lowers, ContractingIsLowering, LoweredAreContracted, IsPair}
 use Rattle.ch_custom.specs.Customizing.{HasParent, IsTopology, StaysIn, LegsStayInTopologies, TopologiesServeAllWeights, ParentsClose}
@@ -27,7 +27,7 @@ use Rattle.ch_contract.proofs.theory.Enough.{own_witness, hierarchy_by}
 use Rattle.ch_contract.proofs.theory.Levelled.{within_more, gone_steps}
 use Rattle.ch_contract.proofs.theory.OneInTurn.{one_map}
 use Rattle.ch_contract.proofs.theory.OpeningLegs.{opening_leg, opening_within}
-use Rattle.ch_contract.proofs.theory.ReferenceSearch.{some_of}
+use Rattle.ch_contract.proofs.theory.WitnessSearch.{some_of}
 use Rattle.ch_contract.proofs.theory.RowLegs.{none_unless}
 use Rattle.ch_contract.proofs.theory.ShortcutsListed.{shortcuts_listed}
 

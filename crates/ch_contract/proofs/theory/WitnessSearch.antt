@@ -1,28 +1,62 @@
--- The search of the reference program finds exactly the witnesses.
+-- Whether a pair has a witness is decided: a plain search over chains finds exactly the witnesses.
 use Rattle.std.proofs.Common.{◌≡◌, ℕ, suc, zero, ◌<◌, ◌≤◌, Bool, true, false, cond, List, [], ◌∷◌, length, Option, Some, None, refl}
 use Rattle.std.proofs.Common.{sym, ◌∙◌, ap, subst, arith, inl, inr}
-use Rattle.std.specs.Prelude.{◌⊎◌, ◌≢◌, ◌==◌, IsSome}
+use Rattle.std.specs.Prelude.{◌⊎◌, ◌≢◌, ◌==◌, ◌&&◌, ◌||◌, nat_lt, nat_le, if◌then◌else◌, IsSome}
 use Rattle.std.specs.List.{AllByRecursion}
 use Rattle.std.proofs.lemmas.Bool.{cases_eq, eqb-true, eqb-false}
 use Rattle.std.proofs.lemmas.Bool.Decides.{nat_tests}
 use Rattle.std.proofs.lemmas.Option.{same_Some, none-some}
 use Rattle.ch_graph.specs.declared.cost.Cost.{Cost}
 use Rattle.ch_graph.specs.Cost.{IsAtMost, cost_sum, no_cost}
-use Rattle.ch_contract.specs.Legs.{Label, Legs, IsChain, chain_cost, leg_cost, HasWitness}
-use Rattle.ch_contract.specs.Reference.{cheapest, cheapest_below, cheaper, is_at_most, plus_cost, costs_at_most, has_witness}
-use Rattle.ch_contract.specs.Laws.{LeadsWithin}
+use Rattle.ch_contract.specs.Legs.{Label, Legs, IsChain, chain_cost, leg_cost, HasWitness, LeadsWithin}
 use Rattle.ch_graph.proofs.CostOrder.{IsAtMost_refl, IsAtMost_trans, IsAtMost-no_cost}
 use Rattle.ch_graph.proofs.CostSums.{IsAtMost-cost_sum}
 use Rattle.ch_graph.proofs.Numbers.{not_eqb, eqb-refl}
 
+-- whether a cost is at most another
+abbrev is_at_most : Cost → Cost → Bool
+is_at_most a b = nat_lt a.weight b.weight || (a.weight == b.weight && nat_le a.arcs b.arcs)
+
+-- the less of two costs
+abbrev cheaper : Option Cost → Option Cost → Option Cost
+cheaper None b = b
+cheaper (Some a) None = Some a
+cheaper (Some a) (Some b) = if is_at_most a b then Some a else Some b
+
+-- the least of the costs that f gives to the numbers below n
+abbrev cheapest_below : ℕ → (ℕ → Option Cost) → Option Cost
+cheapest_below zero f = None
+cheapest_below (suc n) f = cheaper (f n) (cheapest_below n f)
+
+-- the sum with a cost, if there is one
+abbrev plus_cost : Cost → Option Cost → Option Cost
+plus_cost c None = None
+plus_cost c (Some d) = Some (cost_sum c d)
+
+-- the least cost of a chain of at most k legs from u to w that visits no v after u
+abbrev cheapest : ℕ → Legs → ℕ → ℕ → ℕ → ℕ → Option Cost
+cheapest n L v w zero u = if u == w then Some no_cost else None
+cheapest n L v w (suc k) u = if u == w then Some no_cost
+    else cheapest_below n (λ x.
+    elim (L u x) [ None ↦ None | Some l ↦ elim (x == v) [ true ↦ None | false ↦ plus_cost l.cost (cheapest n L v w k x) ] ])
+
+-- whether there is a cost, and it is at most this one
+abbrev costs_at_most : Option Cost → Cost → Bool
+costs_at_most None c = false
+costs_at_most (Some d) c = is_at_most d c
+
+-- whether the search finds a witness
+abbrev has_witness : ℕ → Legs → ℕ → ℕ → ℕ → Cost → ℕ → Bool
+has_witness n L v u w c h = costs_at_most (cheapest n L v w h u) c
+
 -- the test of two costs decides whether one is at most the other
-pub is_at_most_true : (a b : Cost) → is_at_most a b ≡ true → IsAtMost a b
+is_at_most_true : (a b : Cost) → is_at_most a b ≡ true → IsAtMost a b
 is_at_most_true a b h = (grind (arith, nat_tests), λ e. grind (arith, nat_tests))
 
-pub is_at_most_false : (a b : Cost) → is_at_most a b ≡ false → IsAtMost b a
+is_at_most_false : (a b : Cost) → is_at_most a b ≡ false → IsAtMost b a
 is_at_most_false a b h = (grind (arith, nat_tests), λ e. grind (arith, nat_tests))
 
-pub at_most_is_true : (a b : Cost) → IsAtMost a b → is_at_most a b ≡ true
+at_most_is_true : (a b : Cost) → IsAtMost a b → is_at_most a b ≡ true
 at_most_is_true a b h = grind (arith, nat_tests)
 
 -- the cheaper of two costs is one of them
@@ -177,12 +211,12 @@ costs_at_most_covered (Some a) c d h le =
     at_most_is_true a c (IsAtMost_trans a d c (subst (λ q. IsAtMost q d) (sym (same_Some _ _ h.1)) h.2) le)
 
 -- a chain between different nodes has a leg
-pub nonempty : (L : Legs) (u w : ℕ) (xs : List ℕ) → u ≢ w → IsChain L u w xs → 0 < length xs
+nonempty : (L : Legs) (u w : ℕ) (xs : List ℕ) → u ≢ w → IsChain L u w xs → 0 < length xs
 nonempty L u w [] ne chain = absurd (ne chain)
 nonempty L u w (x ∷ xs) ne chain = omega arith
 
 -- the search returns true only if there is a witness, and it returns true if there is one
-pub witness_found : (n : ℕ) (L : Legs) (v u w : ℕ) (c : Cost) (h : ℕ) → u ≢ w → u ≢ v → has_witness n L v u w c h ≡ true →
+witness_found : (n : ℕ) (L : Legs) (v u w : ℕ) (c : Cost) (h : ℕ) → u ≢ w → u ≢ v → has_witness n L v u w c h ≡ true →
     HasWitness L v u w c h
 witness_found n L v u w c h ne off e =
     let r = costs_at_most_one (cheapest n L v w h u) c e in
@@ -197,7 +231,7 @@ witness_found n L v u w c h ne off e =
       },
     )
 
-pub witness_covered : (n : ℕ) (L : Legs) (v u w : ℕ) (c : Cost) (h : ℕ) → LeadsWithin n L → HasWitness L v u w c h →
+witness_covered : (n : ℕ) (L : Legs) (v u w : ℕ) (c : Cost) (h : ℕ) → LeadsWithin n L → HasWitness L v u w c h →
     has_witness n L v u w c h ≡ true
 witness_covered n L v u w c h within x =
     let one = x.1 in
