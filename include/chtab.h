@@ -295,8 +295,8 @@ uint32_t chtab_keep_values(chtab *handle, const uint64_t *values, size_t values_
 /* Writes the weights and the sums of a table, and the number of cells to `cells`. The route from sources[i] to targets[j] has
  * its weight in weights[i * targets_len + j], and at the same place of `sums` the sum of the values that chtab_keep_values keeps
  * on the lines of its arcs, both as chtab_route_sums gives them. weights_len and sums_len are sources_len times targets_len. The
- * call takes one search for each source and each target. It does not look at all values, so that a table takes about twice as
- * long as with chtab_table, on a network of any size.
+ * call takes one search for each source and each target. It does not look at all values, so that a table takes 1.5 to 3.5
+ * times as long as with chtab_table, on a network of any size.
  * Errors: CHTAB_CLOSED, CHTAB_NO_VALUES, CHTAB_LENGTHS, CHTAB_NODE_RANGE. With CHTAB_SUM_TOO_LARGE or CHTAB_NO_MEMORY the first
  * cells are written, row after row, and `cells` is their number: the sum of the next cell is 2^64 or more, or there is no memory
  * for it. */
