@@ -596,7 +596,8 @@ class Network:
 
     def _customized_in(self, order: bytes | str | None) -> Customizing:
         """What customizes weights of the arcs of this network, in an order."""
-        tails, heads = (numpy.asarray(column, numpy.int64) for column in self._layers.graph[1:3])
+        graph = self._layers.graph
+        tails, heads = (numpy.asarray(each, numpy.int64) for each in (graph.tails, graph.heads))
         return Customizing(self._engine.calls, self.nodes, tails, heads, order)
 
     def _topology(self) -> Customizing | None:

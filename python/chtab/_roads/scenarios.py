@@ -111,7 +111,9 @@ class Given(NamedTuple):
     @classmethod
     def of(cls, layers: Layers) -> Given:
         """The arcs of the files of a network."""
-        tails, heads, weights = (numpy.array(each, numpy.int64) for each in layers.graph[1:4])
+        graph = layers.graph
+        columns = graph.tails, graph.heads, graph.weights
+        tails, heads, weights = (numpy.array(each, numpy.int64) for each in columns)
         return cls(layers, ArcNames(layers), tails, heads, weights, layers.rows)
 
     @property

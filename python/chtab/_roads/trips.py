@@ -46,8 +46,13 @@ class Trips:
         return found
 
     def one(self, name: str, spot: Spots) -> Spots:
-        """One spot on the roads of this network."""
-        see_that_one(spot)
+        """A single spot on the roads of this network, and nothing else."""
+        if not isinstance(spot, Spots):
+            text = "reach starts at a spot, as `snap` gives one, not at"
+            raise TypeError(f"{text} {type(spot).__name__}")
+        if len(spot) != 1:
+            text = f"reach starts at one spot, not at {len(spot)}"
+            raise ValueError(f"{text}: take one of them, as spots[:1]")
         return self.roads.own(name, spot)
 
     def weights(self, starts: Spots, ends: Spots) -> Integers:
@@ -118,13 +123,3 @@ def limits_in(measure: Measure, limits: Any) -> list[tuple[int, float]]:
     numbers = [measure.number("limits", limit) for limit in given]
     shown = [int(each) if each == math.floor(each) else float(each) for each in numbers]
     return sorted(zip(wholes, shown), reverse=True)
-
-
-def see_that_one(spot: Spots) -> None:
-    """Refuses anything but a single spot."""
-    if not isinstance(spot, Spots):
-        text = "reach starts at a spot, as `snap` gives one, not at"
-        raise TypeError(f"{text} {type(spot).__name__}")
-    if len(spot) != 1:
-        text = f"reach starts at one spot, not at {len(spot)}"
-        raise ValueError(f"{text}: take one of them, as spots[:1]")
